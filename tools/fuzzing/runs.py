@@ -335,7 +335,7 @@ def stored_groups():
         with open(path, "rb") as file:
             texts = re.split(rb"(?<=\nend\n)(?=bitable flight )", file.read())
         found.append([text for text in texts if text])
-    for names in (f"{ROOT}/crates/test_cases/data/node[123].flight", f"{ROOT}/examples/flights/node[123].flight"):
+    for names in (f"{ROOT}/cases/flights/node[123].flight", f"{ROOT}/examples/flights/node[123].flight"):
         texts = []
         for path in sorted(glob.glob(names)):
             with open(path, "rb") as file:

@@ -6,7 +6,7 @@ use Rattle.std.specs.declared.alloc.Global.{Global}
 use Rattle.flight.specs.Contents.{in_flight}
 use Rattle.flight.specs.declared.flight.Flight.{Flight}
 use Rattle.flight.specs.declared.flight.Version.{Version}
-use Rattle.flightread.specs.Files.{IsFileOf}
+use Rattle.flight.specs.Files.{IsFileOf}
 use Rattle.moments.specs.Judged.{judged_from}
 use Rattle.schemaread.specs.Schemas.{SchemaSays}
 use Rattle.adopt.specs.Versions.{has_outcomes}

@@ -1,8 +1,9 @@
-//! The run that flights hold, as the first journal of a store.
+//! The run that flights hold, as the first journal of a store, and a folder of flights made a store.
 #![tactic(auto)]
 
 mod adopting;
 mod deeds;
+mod folder;
 mod group;
 mod run;
 mod stored;
@@ -10,6 +11,4 @@ mod taken;
 mod telling;
 mod told;
 
-pub use adopting::first_journal;
-pub use group::read_run;
-pub use run::Run;
+pub use folder::adopt_run;

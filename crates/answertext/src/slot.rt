@@ -6,7 +6,7 @@ ghost use Rattle.period.specs.SystemEnd.{end_text as system_end_text};
 ghost use Rattle.answertext.specs.Answers.{slot_text, end_text, optional_text};
 
 use answer::{Shown, Shows};
-use literals::Literal;
+use model::literal::Literal;
 use model::stamp::Stamp;
 use model::value::Value;
 use period::SystemEnd;

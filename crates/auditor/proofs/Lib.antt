@@ -7,3 +7,4 @@ pub mod Listing
 pub mod Upholding
 pub mod JoinedSame
 pub mod Verdicts
+mod Refusing

@@ -36,7 +36,7 @@ use Rattle.moments.specs.declared.moment.Moment.{Moment}
 use Rattle.moments.specs.declared.recorded.Recorded.{Recorded}
 use Rattle.moments.specs.Past.{Past, beginning, after}
 use Rattle.moments.specs.Moments.{all_moments}
-use Rattle.moments.specs.Behind.{Evidence, job_event, step_at, outcomes_in, AreTold, IsAnswered, IsAnsweredBy, IsBehind, IsRefusalText, IsTaken, IsText}
+use Rattle.moments.specs.Behind.{Evidence, job_event, life_at, step_at, outcomes_in, AreTold, IsAnswered, IsAnsweredBy, IsBehind, IsRefusalText, IsTaken, IsText}
 use Rattle.moments.specs.Texts.{OneText}
 use Rattle.auditor.specs.Audited.{Leads, Explains}
 use Rattle.auditor.specs.Upheld.{decided_in, HasOutcomes, IsPutOff, IsUpheld, Upholds}
@@ -154,6 +154,28 @@ outcome_held r events e agree node own life step o has at lived stepped among =
     let t = told_among outs o (subst (λ (os : List Outcome). Contains os o) (sym (told_are r.version outs step.outcomes has taken.2.2)) among) in
     let gives : Gives (schema_in r) n (run (schema_in r) n (opening_of r) p.early) (job_event node taken.0) outs = subst (λ (w : World). Gives (schema_in r) n w (job_event node taken.0) outs) p.world taken.2.1 in
     (t.told, t.is, agree.outcomes_agree p.early p.late (job_event node taken.0) outs t.member t.told (one_event p.early p.now p.late events (job_event node taken.0) taken.3 p.is) gives t.among)
+
+-- ---- a step has an event
+
+-- what a place names is there
+named : {A B : Type 0} (o : Option A) (f : A → Option B) (b : B) → option_and_then f o ≡ Some b → (a : A) × (o ≡ Some a) × (f a ≡ Some b)
+named None f b is = absurd (cc is)
+named (Some a) f b is = (a, refl, is)
+
+not_none : (xs ys : List Event) (x : Event) → xs ++ x ∷ ys ≡ [] → ⊥
+not_none [] ys x is = absurd (cc is)
+not_none (z ∷ xs) ys x is = absurd (cc is)
+
+pub step_has_event : (r : Evidence) (events : List Event) → Explains r events → (node life place : ℕ) (step : Step) → step_at r.lives node life place ≡ Some step → events ≡ [] → ⊥
+step_has_event r events e node life place step at none =
+    let lived = named (life_at r.lives node life) (λ (l : Life). slice_get l.steps.items place) step at in
+    let owned = named (nth r.lives node) (λ (own : Vec Life Global). slice_get own.items life) lived.0 lived.1 in
+    let m : Moment = record { mark = step.mark; node = node; deed = Takes life place } in
+    let listed = step_listed r.lives r.answers node life place owned.0 lived.0 step owned.1 owned.2 lived.2 in
+    let p = placed_in r events e m (Contains-permutation (all_moments r.lives r.answers) e.moments m e.timeline.all listed) in
+    let T : Option Step → Type 0 = λ s. IsTaken r.version r.tables (length r.lives) p.mid node s p.now in
+    let taken = subst T at p.behind in
+    not_none p.early p.late (job_event node taken.0) (one_event p.early p.now p.late events (job_event node taken.0) taken.3 p.is ∙ none)
 
 -- ---- answers
 

@@ -44,7 +44,7 @@ fn follow_all(
 }
 
 // The events of a run that explains what was recorded.
-fn explain(
+pub(crate) fn explain(
     alloc: Global,
     version: Version,
     schema: &Schema,

@@ -2,6 +2,7 @@
 #![tactic(auto)]
 
 mod auditing;
+mod refused;
 mod verdict;
 
 pub use auditing::audit;

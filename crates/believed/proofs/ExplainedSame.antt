@@ -49,15 +49,20 @@ brought_now events list x = record {
   apart = λ i j d e r s D E same. x.apart r s (request_at list i d r D) (request_at list j e s E) same;
 }
 
-explains_now : (language : Language) (events : List Event) (outs : List (List Output)) (list : List Entry) → before.Explains language events outs list → now.Explains language events outs list
+pub explains_now : (language : Language) (events : List Event) (outs : List (List Output)) (list : List Entry) → before.Explains language events outs list → now.Explains language events outs list
+unfolding brought_now
 explains_now language events outs list x = record {
   stamped = stamped_now list x.stamped;
   told = λ k m told gave. told_now language list told (x.told k m told gave);
   answered = λ k m q a asked. answer_now language q a.last list a (x.answered k m q a asked);
   brought = brought_now events list x.brought;
+  unrefused = λ i e r at m why gave. x.unrefused r (request_at list i e r at) m why gave;
+  reads = λ i e r at. x.reads r (request_at list i e r at);
+  told_whole = λ k m i told e r gave at l. x.told_whole k m told r (request_at list i e r at) gave l;
+  answered_whole = λ k m i q a e r asked at l. x.answered_whole k m q a r (request_at list i e r at) asked l;
 }
 
-order_now : (language : Language) (events : List Event) (outs : List (List Output)) (list : List Entry) →
+pub order_now : (language : Language) (events : List Event) (outs : List (List Output)) (list : List Entry) →
     ((k m : ℕ) (told : Told) → before.Gave outs k (Applied m told) → old.IsTold language list told) → before.IsInOrder language events outs list → now.IsInOrder events outs list
 order_now language events outs list told_in x = record {
   told_then_submitted = λ k m i told e r gave new at. x.told_then_submitted k m told r (request_at list i e r at) gave (new_before events k r new);
@@ -67,6 +72,12 @@ order_now language events outs list told_in x = record {
       let same : T.entry ≡ e = same_some (nth list told.index) T.entry e T.at at in
       subst (λ (z : Entry). z.stamp ≤ a.last) same (x.told_then_asked j k m told T q a l gave asked none (unstopped_before events m j k up));
   answered_then_asked = λ j k m q r a b l up none first second. x.answered_then_asked j k m q r a b l first second none (unstopped_before events m j k up);
+  told_then_put_off = λ j k m told e q l up gave put at.
+      let T = told_in j m told gave in
+      let same : T.entry ≡ e = same_some (nth list told.index) T.entry e T.at at in
+      subst (λ (z : Entry). now.AsksPast z.stamp q) same (x.told_then_put_off j k m told T q l gave put (unstopped_before events m j k up));
+  answered_then_put_off = λ j k m q r a l up first put. x.answered_then_put_off j k m q r a l first put (unstopped_before events m j k up);
+  told_then_told = λ j k m a b l up first second. x.told_then_told j k m a b l first second (unstopped_before events m j k up);
 }
 
 module _ (language : Language) (n : ℕ) (outset : World) where

@@ -10,6 +10,8 @@ pub mod GivesSame
 pub mod AgreeSame
 pub mod Turns
 pub mod ExplainedSame
+pub mod Given
+pub mod Whole
 pub mod ServesSame
 pub mod LexingSame
 pub mod SpellingSame

@@ -10,7 +10,7 @@ ghost use Rattle.model.specs.Worlds.{World, Event, Output, new_world};
 ghost use Rattle.model.specs.Worlds as model;
 ghost use Rattle.believed.specs.Worlds.{run, GivesAll};
 ghost use Rattle.believed.specs.Agreement.{Agree, decided};
-ghost use Rattle.believed.specs.Explained.{IsDecidedInOrder, IsExplained, WereSubmitted};
+ghost use Rattle.believed.specs.Explained.{Explanation, IsDecidedInOrder, IsExplained, WereSubmitted};
 ghost use Rattle.believed.specs.Progress.{CanServe};
 ghost use Rattle.believed.specs.Meaning.{IsLanguage};
 ghost use Rattle.believed.specs.Queries.{IsAsking};
@@ -26,10 +26,11 @@ pub fn same_runs()
 {}
 
 /// What is proved of each run from the outset in which no term has begun, in these words: all members agree; one list explains
-/// it; what is decided was submitted, and stands in the order of real time; and no majority is stuck.
+/// it, and what it gave; what is decided was submitted, and stands in the order of real time; and no majority is stuck.
 pub fn promises()
     ensures agree { (language : Language) (n : ℕ) (events : List Event) → Agree language n (new_world n) events }
     ensures explained { (language : Language) (n : ℕ) (events : List Event) → IsExplained language n (new_world n) events }
+    ensures given { (language : Language) (n : ℕ) (events : List Event) (outs : List (List Output)) → model.GivesAll language n (new_world n) events outs → Explanation language n events outs }
     ensures invented { (language : Language) (n : ℕ) (events : List Event) → WereSubmitted events (decided language n (new_world n) events) }
     ensures ordered { (language : Language) (n : ℕ) (events : List Event) → IsDecidedInOrder language n (new_world n) events }
     ensures serves { (language : Language) (n : ℕ) (events : List Event) → CanServe language n (run language n (new_world n) events) }

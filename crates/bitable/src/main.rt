@@ -1,24 +1,23 @@
 //! The program `bitable`: commands of the crates `shell` and `console` over files, folders and the standard streams.
 #![tactic(auto)]
 
-use beginnings::line::read_line;
-use causes::{Name, Trouble};
+mod drawing;
+mod judging;
+
+use crate::drawing::{draw, draw_run};
+use crate::judging::audit;
 use clap::Error;
 use clap::error::ErrorKind;
 use console::Stop as Ended;
-use diagnosis::{Subject, diagnose};
+use diagnosis::{Name, Subject, Trouble, diagnose};
 use fault::Refusal;
-use forms::{Canvas, Drawing, Form, Look};
-use progressline::{Progress, ProgressLine, Uncovered};
-use scriptlanes::{Drawing as RunDrawing, Sheet, Span};
-use shell::audit::run_audit;
+use forms::{Form, Look};
+use progressline::ProgressLine;
 use shell::command::{Audit, Beliefs, Check, Command, Lanes, Live, Sim};
-use shell::command_line::read_command;
+use shell::command_line::{VERSION, read_command};
 use shell::live_run::run_live;
-use shell::report_run::run_report;
-use shell::shown_run::{run_beliefs, run_lanes, run_shown};
+use shell::shown_run::run_shown;
 use shell::sim::run_sim;
-use shell::since_run::run_since;
 use shell::stop::Stop;
 use std::alloc::Global;
 use std::fs::{File, OpenOptions};
@@ -30,7 +29,10 @@ use std::thread::Threads;
 use std::{env, fs, io};
 use storecommands::Command as StoreCommand;
 
-const SIM: &str = "playing the script";
+pub(crate) const SIM: &str = "playing the script";
+
+// How the version ends of a program that tools/build_unproved made.
+const UNPROVED: &str = "unproved";
 
 // How many columns a terminal has.
 const TERMINAL: usize = 80;
@@ -66,7 +68,7 @@ where
     R: Wait + Threads + Copy + Send + Drop + 'static,
 {
     match read_command(host.alloc(), words) {
-        Ok(Command::Store(command)) => end_store(host, console::run(host, command)),
+        Ok(Command::Store(command)) => serve_store(host, command),
         Ok(Command::Audit(asked)) => judge(host, &asked),
         Ok(Command::Beliefs(beliefs)) => draw_beliefs(host, beliefs),
         Ok(Command::PlayInput) => end(host, play_input(host)),
@@ -76,6 +78,26 @@ where
         Ok(Command::Check(check)) => end(host, check_file(host, check)),
         Err(error) => end(host, tell_of_words(host, error)),
     }
+}
+
+// Does what is asked of a store. A sitting at a terminal begins with a line where nothing of the program was proved.
+fn serve_store(host: &HostRuntime, command: StoreCommand<'_>) -> ExitCode {
+    let is_open = matches!(command, StoreCommand::Open(_));
+    if is_open && host.stdin().is_terminal() && host.stdout().is_terminal() {
+        let _ = tell_unproved(&mut io::writer(host));
+    }
+    end_store(host, console::run(host, command))
+}
+
+// Says that nothing of the program was proved, where nothing was.
+pub(crate) fn tell_unproved<W: Write>(writer: &mut W) -> io::Result<()> {
+    if !VERSION.ends_with(UNPROVED) {
+        return Ok(());
+    }
+    write!(
+        writer,
+        "bitable {VERSION}: nothing of this program was proved\n"
+    )
 }
 
 // Prints the help that a command line asks for, or why it is refused.
@@ -182,7 +204,7 @@ fn refuse_words(rt: &impl Eprint) -> Result<u8, Stop<'static>> {
     Ok(2)
 }
 
-fn open_script<'a, R: Files>(rt: &R, path: &'a str) -> Result<R::File, Trouble<'a>> {
+pub(crate) fn open_script<'a, R: Files>(rt: &R, path: &'a str) -> Result<R::File, Trouble<'a>> {
     let file = Name::Given(path);
     File::open(rt, path).map_err(|error| {
         Trouble::of_system(file, "opening the script", Refusal::BadScript(0), error)
@@ -190,7 +212,7 @@ fn open_script<'a, R: Files>(rt: &R, path: &'a str) -> Result<R::File, Trouble<'
 }
 
 // What a played script came to: a refusal of the script has its file and what was tried as its cause.
-fn script_ended<'a>(
+pub(crate) fn script_ended<'a>(
     ended: Result<u8, Stop<'a>>,
     file: Name<'a>,
     tried: &'static str,
@@ -234,7 +256,7 @@ fn refuse_form(rt: &impl Eprint, name: &str) -> Result<u8, Stop<'static>> {
 }
 
 // How many columns a line may have: what COLUMNS says, else 80.
-fn columns<R: AllocGlobal + Env>(rt: &R) -> usize {
+pub(crate) fn columns<R: AllocGlobal + Env>(rt: &R) -> usize {
     match env::var(rt, "COLUMNS") {
         Ok(text) => text.as_str().parse::<usize>().unwrap_or(TERMINAL),
         Err(_) => TERMINAL,
@@ -299,110 +321,8 @@ where
     Ok(1)
 }
 
-// Draws the last answer of a script, on standard output or into a file.
-fn draw<'a, R>(rt: &R, beliefs: Beliefs<'a>) -> Result<u8, Stop<'a>>
-where
-    R: AllocGlobal + Env + Files + Print + Eprint,
-{
-    let mut script = open_script(rt, beliefs.script)?;
-    let canvas = match beliefs.svg {
-        Some(_) => Canvas::Page,
-        None => Canvas::Text(columns(rt)),
-    };
-    let ended = match run_beliefs(rt.alloc(), canvas, &mut script) {
-        Ok(Drawing::Drawn(picture)) => hand_out(rt, beliefs.svg, picture.as_slice()),
-        Ok(Drawing::NoAnswer) => refuse_drawing(rt, "nothing in the script is answered"),
-        Ok(Drawing::TooMuch) => {
-            refuse_drawing(
-                rt,
-                "more than 200 versions: ask about fewer days, instants or keys",
-            )
-        }
-        Err(fault) => Err(Stop::from(fault)),
-    };
-    script_ended(ended, Name::Given(beliefs.script), SIM)
-}
-
-fn line_or(number: Option<u64>, other: usize) -> usize {
-    match number {
-        Some(number) => usize::try_from(number).unwrap_or(usize::MAX),
-        None => other,
-    }
-}
-
-// The lines that are asked for: all where none is named.
-fn span_of(lanes: Lanes<'_>) -> Span {
-    Span {
-        first: line_or(lanes.first, 0),
-        last: line_or(lanes.last, usize::MAX),
-    }
-}
-
-// Draws what the members do in a script, on standard output or into a file.
-fn draw_run<'a, R>(rt: &R, host: &HostRuntime, lanes: Lanes<'a>) -> Result<u8, Stop<'a>>
-where
-    R: AllocGlobal + Env + Files + Print + Eprint,
-{
-    let mut script = open_script(rt, lanes.script)?;
-    let sheet = match lanes.svg {
-        Some(_) => Sheet::Page,
-        None if host.stdout().is_terminal() => Sheet::Text(Some(columns(rt))),
-        None => Sheet::Text(None),
-    };
-    let ended = match run_lanes(rt.alloc(), lanes.script, sheet, span_of(lanes), &mut script) {
-        Ok(RunDrawing::Drawn(picture)) => hand_out(rt, lanes.svg, picture.as_bytes()),
-        Ok(RunDrawing::Nothing) => refuse_drawing(rt, "nothing happens in these lines"),
-        Ok(RunDrawing::TooMuch) => {
-            refuse_drawing(
-                rt,
-                "more than 110 messages or 440 events: draw fewer lines, with --from and --to",
-            )
-        }
-        Ok(RunDrawing::TooNarrow(needed)) => refuse_terminal(rt, needed),
-        Err(fault) => Err(Stop::from(fault)),
-    };
-    script_ended(ended, Name::Given(lanes.script), SIM)
-}
-
-// That the terminal has fewer columns than a picture takes.
-fn refuse_terminal<'a>(rt: &impl Eprint, needed: usize) -> Result<u8, Stop<'a>> {
-    let _ = eprintln!(rt;
-        "the picture takes {needed} columns: widen the terminal, or draw a page with --svg"
-    );
-    Ok(1)
-}
-
-// That nothing is drawn, and why.
-fn refuse_drawing<'a>(rt: &impl Eprint, why: &str) -> Result<u8, Stop<'a>> {
-    let _ = eprintln!(rt; "{why}");
-    Ok(1)
-}
-
-// Writes a picture into the file of this name, or where there is none on standard output.
-fn hand_out<'a, R>(rt: &R, path: Option<&str>, picture: &[u8]) -> Result<u8, Stop<'a>>
-where
-    R: AllocGlobal + Files + Print + Eprint,
-{
-    let Some(path) = path else {
-        let mut writer = io::writer(rt);
-        writer.write_all(picture)?;
-        writer.flush()?;
-        return Ok(0);
-    };
-    match fs::write(rt, path, picture) {
-        Ok(()) => Ok(0),
-        Err(error) if error.kind() == io::ErrorKind::OutOfMemory => {
-            Err(Stop::from(Refusal::NoMemory))
-        }
-        Err(error) => {
-            let _ = eprintln!(rt; "{path}: writing the picture: {error}");
-            Ok(1)
-        }
-    }
-}
-
 // What shows on standard error, where that is a terminal, how far a long work is.
-fn progress_on(host: &HostRuntime) -> ProgressLine<'_, HostRuntime> {
+pub(crate) fn progress_on(host: &HostRuntime) -> ProgressLine<'_, HostRuntime> {
     ProgressLine::new(host, host.stderr().is_terminal())
 }
 
@@ -433,89 +353,6 @@ where
         Err(_) => Err(Stop::from(Refusal::NoMemory)),
     };
     script_ended(ended, file, "playing the script with live")
-}
-
-// The texts of the files of these names. How many are read is told to who asks for it.
-fn read_flights<'a, R: AllocGlobal + Files, Q: Progress>(
-    rt: &R,
-    names: &[&'a str],
-    progress: &Q,
-) -> Result<Vec<String>, Stop<'a>> {
-    let mut texts = Vec::new(rt.alloc());
-    progress.begin("files", names.len());
-    for name in names {
-        match fs::read_to_string(rt, *name) {
-            Ok(text) => {
-                texts.push(text)?;
-                progress.tell(texts.len());
-            }
-            Err(error) => {
-                let (file, tried) = (Name::Given(*name), "reading the flight");
-                return Err(Stop::from(Trouble::of_system(file, tried, Refusal::BadFlight, error)));
-            }
-        }
-    }
-    Ok(texts)
-}
-
-// How many steps flights have, each in a line of its own.
-fn steps_in(texts: &[String]) -> usize {
-    let mut steps: usize = 0;
-    for text in texts {
-        let lines = text.as_str().split('\n');
-        steps = steps.saturating_add(lines.filter(|line| line.starts_with("step ")).count());
-    }
-    steps
-}
-
-// That a report and a line that was kept do not go together, in the words that the command line has for such.
-fn refuse_both(rt: &impl Eprint) -> Result<u8, Stop<'static>> {
-    let _ = eprintln!(rt;
-        "error: the argument '--since <LINE>' cannot be used with '--report' or '--json'\n\nFor more information, try '--help'."
-    );
-    Ok(2)
-}
-
-// That no report ends with this line, in the words that the command line has for a value that it does not take.
-fn refuse_since(rt: &impl Eprint, line: &str) -> Result<u8, Stop<'static>> {
-    let _ = eprintln!(rt;
-        "error: invalid value '{line}' for '--since <LINE>': it is no line that 'audit --report' gives\n\nFor more information, try '--help'."
-    );
-    Ok(2)
-}
-
-// Judges flights in files, as it is asked for.
-fn audit<'a, R>(rt: &R, host: &HostRuntime, asked: &Audit<'a>) -> Result<u8, Stop<'a>>
-where
-    R: AllocGlobal + Files + Print + Eprint,
-{
-    let alloc: Global = rt.alloc();
-    let names = asked.files.as_slice();
-    let seen = match asked.since {
-        Some(_) if asked.is_report || asked.is_json => return refuse_both(rt),
-        Some(line) => match read_line(alloc, line)? {
-            Some(seen) => Some(seen),
-            None => return refuse_since(rt, line),
-        },
-        None => None,
-    };
-    let progress = progress_on(host);
-    let read = read_flights(rt, names, &progress);
-    progress.hide();
-    let texts = read?;
-    if progress.is_on() {
-        progress.judge(steps_in(texts.as_slice()));
-    }
-    let mut writer = Uncovered::new(io::writer(rt), &progress);
-    let ended = if let Some(seen) = seen {
-        run_since(alloc, seen.as_slice(), texts.as_slice(), &mut writer)
-    } else if asked.is_report || asked.is_json {
-        run_report(alloc, names, texts.as_slice(), asked.is_json, &mut writer)
-    } else {
-        run_audit(alloc, texts.as_slice(), &mut writer)
-    };
-    progress.hide();
-    ended.map_err(|fault| Stop::of_flights(alloc, fault, names, texts.as_slice()))
 }
 
 // The bytes of a file that is read without being played.

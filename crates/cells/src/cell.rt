@@ -144,7 +144,7 @@ impl<K: Keeper> Cell<K> {
     /// node's clock shows, and with what it told of requests. A refused step and one without effect are recorded
     /// too. Then the entries that
     /// became applied are published, and what became sealed; where there is no memory to publish them they stay pending, and a later
-    /// step publishes them. It waits for no view.
+    /// step publishes them. It may wait for a view that is just then copying the token of what is published.
     ///
     /// 41 where the node is down; 42 where the life has its last step or no mark is left; 43 where there is no
     /// memory to record the step: these record and change nothing. A step that goes down is recorded as torn, and so is

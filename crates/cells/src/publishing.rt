@@ -89,7 +89,8 @@ pub(crate) fn note(
     Ok(outcomes)
 }
 
-/// Publishes all that is pending or, for want of memory, nothing. It waits for no view.
+/// Publishes all that is pending or, for want of memory, nothing. It may wait for a view that is just then copying
+/// the token of what is published.
 pub(crate) fn publish_all<R: Wait>(publisher: &mut Publisher, rt: &R)
     ensures same { IsSameLife publisher.old publisher.new × (given_of publisher.new ≡ given_of publisher.old) }
     ensures all { published publisher.new ++ pending publisher.new ≡ published publisher.old ++ pending publisher.old }

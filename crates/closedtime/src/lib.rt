@@ -5,6 +5,8 @@ ghost use Rattle.std.specs.Prelude.{◌≡◌, ◌≤◌, ◌<◌, None, IfSome,
 ghost use Rattle.model.specs.Logs.{closed};
 ghost use Rattle.model.specs.Stamps.{TIME_LAST, above, greater, stamp};
 
+mod refused;
+
 pub use model::entry::Entry;
 use model::stamp::{LAST_MICROS, Stamp};
 

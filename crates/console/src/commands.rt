@@ -1,15 +1,14 @@
 //! The commands.
+use crate::evidence::{run_audit, run_flights, run_log};
 use crate::line_limit::LineLimit;
 use crate::line_reader::LineReader;
 use crate::printing::{counted, name_of, print};
 use crate::restores::{restore_unsynced, run_restore};
 use crate::session::{Place, Session};
 use crate::stop::{Fault, Stop};
-use crate::transfers::{carry_out, progress_on};
-use causes::{Name, Trouble};
+use crate::transfers::carry_out;
+use diagnosis::{Name, Trouble};
 use fault::Refusal;
-use model::member::Member;
-use playback::Decided;
 use schema::Schema;
 use schemaread::schemas::read_schema;
 use std::alloc::{AllocError, Global};
@@ -18,7 +17,6 @@ use std::io::{BufReader, IsTerminal, Read};
 use std::{env, fs};
 use store::StoreRefusal;
 use store::announcing::Announces;
-use storeaudit::{Audited, Later, Verdict};
 use storecommands::dot::Form;
 use storecommands::{Command, ExportRows, ImportRows, NewStore, OpenStore};
 use storefolder::{Holder, Opened, hold_store, reading_of};
@@ -136,7 +134,7 @@ impl<R: Read + Drop> Holder for Sitter<'_, R> {
 
 // Makes a store of a folder with the flights of a run, and says so on standard error.
 fn adopt(rt: &HostRuntime, alloc: Global, dir: &str) -> Result<(), Fault> {
-    if let Some(flights) = storefolder::adopt(rt, alloc, dir)? {
+    if let Some(flights) = adopt::adopt_run(rt, alloc, dir)? {
         let _ = eprintln!(*rt;
             "made a store of the run in {dir}: its {flights} flights are journal 1"
         );
@@ -260,147 +258,6 @@ fn run_open<'a>(rt: &HostRuntime, alloc: Global, open: OpenStore<'a>) -> Result<
     match sit(rt, alloc, place, file, open.syncs, clock) {
         Ok(status) => Ok(status),
         Err(fault) => Err(sitting_stopped(fault, open.dir, input)),
-    }
-}
-
-// What is said of a store of which an audit says yes.
-fn yes_lines(alloc: Global, audited: &Audited) -> Result<String, AllocError> {
-    let mut text = String::new(alloc);
-    let missing = audited.missing.as_slice();
-    put_missing(missing, &mut text)?;
-    let members = audited.members;
-    put_counts(
-        audited.sessions,
-        audited.requests,
-        members,
-        missing,
-        &mut text,
-    )?;
-    text.push_str("audit: yes\n")?;
-    Ok(text)
-}
-
-// The same where the first journals are away.
-fn later_lines(alloc: Global, later: &Later) -> Result<String, AllocError> {
-    let mut text = String::new(alloc);
-    let missing = later.missing.as_slice();
-    put_missing(missing, &mut text)?;
-    let members = later.members;
-    put_counts(later.sessions, later.requests, members, missing, &mut text)?;
-    let journal = later.journal;
-    let before = journal.saturating_sub(1);
-    write!(
-        text,
-        "audit: yes, from journal {journal} on; it rests on what journal {before} left\n"
-    )?;
-    Ok(text)
-}
-
-// How many journals were played, and what came of them.
-fn put_counts(
-    sessions: u64,
-    requests: u64,
-    members: usize,
-    missing: &[Member],
-    text: &mut String,
-) -> Result<(), AllocError> {
-    let which = if missing.is_empty() {
-        ""
-    } else {
-        " that is there"
-    };
-    write!(
-        text,
-        "sessions {sessions}, requests {requests}, members {members}: each database{which} is what the journals give\n"
-    )
-}
-
-fn put_missing(missing: &[Member], text: &mut String) -> Result<(), AllocError> {
-    for member in missing {
-        let member = *member;
-        write!(text, "the database of node {member} is missing\n")?;
-    }
-    Ok(())
-}
-
-// Judges the store in a folder. The exit status is 0 where the audit says yes, else 1.
-fn run_audit(rt: &HostRuntime, alloc: Global, dir: &str) -> Result<u8, Fault> {
-    match storeaudit::audit(rt, alloc, dir, &progress_on(rt))? {
-        Verdict::Yes(audited) => {
-            let lines = yes_lines(alloc, &audited)?;
-            print(rt, lines.as_str())?;
-            Ok(0)
-        }
-        Verdict::Later(later) => {
-            let lines = later_lines(alloc, &later)?;
-            print(rt, lines.as_str())?;
-            Ok(0)
-        }
-        Verdict::No(fault) => {
-            let line = format!(in alloc; "audit: {fault}\n")?;
-            print(rt, line.as_str())?;
-            if let Some(hint) = fault.hint() {
-                let _ = eprintln!(*rt; "        {hint}");
-            }
-            Ok(1)
-        }
-    }
-}
-
-// A text as one line.
-fn put_in_line(text: &str, line: &mut String) -> Result<(), AllocError> {
-    for (at, part) in text.split('\n').enumerate() {
-        if at > 0 {
-            line.push(' ')?;
-        }
-        line.push_str(part)?;
-    }
-    Ok(())
-}
-
-// The line of a decided request. Its text's lines are put into one.
-fn decided_line(alloc: Global, decided: &Decided) -> Result<String, AllocError> {
-    let index = decided.index;
-    let instant = decided.stamp.instant();
-    let client = decided.client.get();
-    let number = decided.number.get();
-    let outcome = decided.outcome.as_str();
-    let mut line = format!(in alloc;
-        "entry {index} {instant} request {client} {number} {outcome} "
-    )?;
-    put_in_line(decided.text.as_str(), &mut line)?;
-    line.push('\n')?;
-    Ok(line)
-}
-
-// Lists the decided requests of the store in a folder.
-fn run_log(rt: &HostRuntime, alloc: Global, dir: &str) -> Result<u8, Fault> {
-    let play = storeaudit::replay(rt, alloc, dir, &progress_on(rt))?;
-    for decided in play.decided() {
-        let line = decided_line(alloc, decided)?;
-        print(rt, line.as_str())?;
-    }
-    Ok(0)
-}
-
-// Writes the flights of the store in a folder.
-fn run_flights<'a>(
-    rt: &HostRuntime,
-    alloc: Global,
-    dir: &'a str,
-    out: &'a str,
-) -> Result<u8, Stop<'a>> {
-    let tried = "writing the flights";
-    match storeaudit::flights(rt, alloc, dir, out, &progress_on(rt)) {
-        Ok(()) => Ok(0),
-        Err(StoreRefusal::NotEmpty) => {
-            Err(Stop::of(
-                Fault::Refused(StoreRefusal::NotEmpty),
-                Name::Given(out),
-                tried,
-            ))
-        }
-        Err(refusal) => Err(Stop::of(Fault::Refused(refusal), Name::Given(dir), tried)),
     }
 }
 

@@ -6,7 +6,7 @@ use crate::requests::is_of_text;
 use crate::restores::restore_unsynced;
 use crate::session::Session;
 use crate::stop::{Fault, Stop};
-use causes::Name;
+use diagnosis::Name;
 use forms::{Canvas, Drawing, draw_answer};
 use model::member::Member;
 use model::stamp::Stamp;

@@ -3,6 +3,7 @@
 
 mod commands;
 mod drawing;
+mod evidence;
 mod gathered;
 mod held;
 mod help;

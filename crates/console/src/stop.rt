@@ -2,7 +2,7 @@
 ghost use Rattle.std.specs.Prelude.{◌≡◌};
 ghost use Rattle.console.specs.Sittings.{fault_of, no_memory};
 
-use causes::{Cause, Found, Name, Trouble};
+use diagnosis::{Cause, Found, Name, Trouble};
 use fault::Refusal;
 use std::alloc::{AllocError, AllocFailed};
 use std::io;

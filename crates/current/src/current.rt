@@ -29,7 +29,7 @@ use crate::suspects::first_touched_orphan;
 use crate::table::TableRows;
 use crate::touched::Touched;
 use fault::{Refusal, Text};
-use literals::{day_text, key_text};
+use model::literal::{day_text, key_text};
 use model::stamp::Stamp;
 use overlaps::{Count, Key};
 use period::{Day, Period};

@@ -9,13 +9,13 @@ use Rattle.keep.specs.declared.hard_state.HardState.{HardState}
 use Rattle.keep.specs.Durable.{Durable, after}
 use Rattle.keep.specs.Log.{IsLog}
 use Rattle.model.specs.Transactions.{Language}
-use Rattle.storetables.specs.Contents.{Contents, Item, number_of_vote, item_of, items_of, contents_of, changed, entry_in, entries_in, durable_in}
-use Rattle.storetables.specs.Rows.{Holds}
-use Rattle.storetables.specs.Stored.{contents_in, stored_in, AreTexts, IsSettled, IsSound, IsStored}
-use Rattle.storetables.specs.Found.{read_back, texts_had}
-use Rattle.storetables.proofs.Tails.{found_in}
-use Rattle.storetables.proofs.Texts.{texts_append, texts_take}
-use Rattle.storetables.specs.Steps.{IsKept, IsKnown, IsMeta, IsFloor}
+use Rattle.durable.specs.Contents.{Contents, Item, number_of_vote, item_of, items_of, contents_of, changed, entry_in, entries_in, durable_in}
+use Rattle.durable.specs.Rows.{Holds}
+use Rattle.durable.specs.Stored.{contents_in, stored_in, AreTexts, IsSettled, IsSound, IsStored}
+use Rattle.durable.specs.Found.{read_back, texts_had}
+use Rattle.durable.proofs.Tails.{found_in}
+use Rattle.durable.proofs.Texts.{texts_append, texts_take}
+use Rattle.durable.specs.Steps.{IsKept, IsKnown, IsMeta, IsFloor}
 use Rattle.durable.specs.Saving.{IsSaved, IsBeginning, IsHard}
 
 -- a change of the tables is the change of what is stored

@@ -13,9 +13,9 @@ use Rattle.model.specs.declared.entry.Entry.{Entry}
 use Rattle.model.specs.declared.entry.Request.{Request}
 use Rattle.keep.specs.declared.hard_state.HardState.{HardState}
 use Rattle.keep.specs.Durable.{Durable}
-use Rattle.storetables.specs.Contents.{Item, Contents}
-use Rattle.storetables.specs.Rows.{Holds}
-use Rattle.storetables.specs.Stored.{IsSettled, IsStored, contents_in}
+use Rattle.durable.specs.Contents.{Item, Contents}
+use Rattle.durable.specs.Rows.{Holds}
+use Rattle.durable.specs.Stored.{IsSettled, IsStored, contents_in}
 use Rattle.durable.specs.Saving.{IsBeginning, IsHard}
 
 pub Schema-set : IsSet Schema

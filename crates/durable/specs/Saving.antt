@@ -5,9 +5,9 @@ use Rattle.sqlite.specs.Tree.{Trees}
 use Rattle.model.specs.declared.entry.Entry.{Entry}
 use Rattle.keep.specs.declared.hard_state.HardState.{HardState}
 use Rattle.keep.specs.Durable.{Durable}
-use Rattle.storetables.specs.Contents.{Contents}
-use Rattle.storetables.specs.Tables.{schema}
-use Rattle.storetables.specs.Rows.{Holds}
+use Rattle.durable.specs.Contents.{Contents}
+use Rattle.durable.specs.Tables.{schema}
+use Rattle.durable.specs.Rows.{Holds}
 
 -- the change is made and committed
 pub record IsSaved (old new : State) (made : Contents → Contents) : Type 0 where

@@ -4,19 +4,19 @@ ghost use Rattle.sqlite.specs.State.{HasCleanDisk};
 ghost use Rattle.sqlite.specs.Held.{state};
 ghost use Rattle.std.specs.Coded.{Π_prop};
 ghost use Rattle.keep.specs.Log.{IsLog, log_prop};
-ghost use Rattle.storetables.specs.Stored.{contents_in, stored_in, IsBad, IsSettled, IsSound, IsStored, Offers};
-ghost use Rattle.storetables.specs.Found.{offers_held, stored_offers, is_one};
+ghost use Rattle.durable.specs.Stored.{contents_in, stored_in, IsBad, IsSettled, IsSound, IsStored, Offers};
+ghost use Rattle.durable.specs.Found.{offers_held, stored_offers, is_one};
 ghost use Rattle.durable.specs.Saving.{IsBeginning, IsHard};
 ghost use Rattle.durable.specs.Props.{IsSettled-prop, IsStored-prop, IsHard-prop, IsBeginning-prop};
 
-use crate::reading::{entry_at, keep_read};
+use crate::cache::{entry_at, keep_read};
+use crate::finding::{find_log, read_state};
 use crate::saving::commit_change;
 use keep::{Change, HardState, Keeper, LogReader, State, StoreError};
 use model::entry::Entry;
 use schema::Schema;
 use sqlite::{Alter, Connection, Error, ErrorCode};
 use std::alloc::Global;
-use storetables::finding::{find_log, read_state};
 
 /// Keeps a member's hard state and log in three tables of a database, over every store that `sqlite` has.
 /// What it opens, and what is left of it, is the connection. It is honest while the store is clean:

@@ -4,15 +4,15 @@ ghost use Rattle.sqlite.specs.State.{HasCleanDisk, Survives};
 ghost use Rattle.sqlite.specs.Held.{state};
 ghost use Rattle.sqlite.specs.Tree.{Trees};
 ghost use Rattle.keep.specs.Log.{IsSmall};
-ghost use Rattle.storetables.specs.Contents.{Contents, changed};
-ghost use Rattle.storetables.specs.Rows.{Holds};
-ghost use Rattle.storetables.specs.Steps.{IsKept, IsKnown};
-ghost use Rattle.storetables.specs.Stored.{AreTexts};
+ghost use Rattle.durable.specs.Contents.{Contents, changed};
+ghost use Rattle.durable.specs.Rows.{Holds};
+ghost use Rattle.durable.specs.Steps.{IsKept, IsKnown};
+ghost use Rattle.durable.specs.Stored.{AreTexts};
 ghost use Rattle.durable.specs.Saving.{IsSaved, Leaves};
 
+use crate::steps::write_change;
 use keep::{Change, HardState};
 use sqlite::{Alter, Connection, Error};
-use storetables::steps::write_change;
 
 /// Makes a change in one transaction.
 fn transact<S: Alter>(
@@ -41,7 +41,7 @@ fn transact<S: Alter>(
 /// Makes a change in one commit. After an error nothing is changed. A crash leaves what was there
 /// before the call or what the change makes of it, and after the call answered `Ok` that alone. What changes is
 /// told from the hard state that is known to be stored, if one is, and from how many entries the log has.
-pub fn commit_change<S: Alter>(
+pub(crate) fn commit_change<S: Alter>(
     conn: &mut Connection<S>,
     change: &Change,
     known: &Option<HardState>,

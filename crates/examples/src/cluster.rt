@@ -23,7 +23,8 @@ use std::thread;
 use std::thread::Threads;
 use std::time::Clock;
 
-const SCHEMA: &str = "CREATE TABLE Dept (DNo INTEGER, DStart DATE, DEnd DATE, DName VARCHAR(20), \
+pub(crate) const SCHEMA: &str =
+    "CREATE TABLE Dept (DNo INTEGER, DStart DATE, DEnd DATE, DName VARCHAR(20), \
     SysStart TIMESTAMP(6) GENERATED ALWAYS AS ROW START, SysEnd TIMESTAMP(6) GENERATED ALWAYS AS ROW END, \
     PERIOD FOR DPeriod (DStart, DEnd), PERIOD FOR SYSTEM_TIME (SysStart, SysEnd), \
     PRIMARY KEY (DNo, DPeriod WITHOUT OVERLAPS)) WITH SYSTEM VERSIONING;";

@@ -8,3 +8,6 @@ pub mod Messages
 pub mod Numbers
 pub mod Stories
 pub mod Tellings
+pub mod Openings
+pub mod Whole
+mod Refusing

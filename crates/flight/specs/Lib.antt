@@ -2,6 +2,8 @@ pub mod Additions
 pub mod Bodies
 pub mod Contents
 pub mod Courses
+pub mod Files
+pub mod Heads
 pub mod Lives
 pub mod Packets
 pub mod Ranges

@@ -3,7 +3,8 @@ ghost use Rattle.std.specs.Prelude.{◌≡◌, IfOk, vec_len};
 
 use crate::files::{Folder, in_words, no_memory, path_of, there_already};
 use crate::flights::write_flights;
-use causes::{Cause, Found, Name, Trouble};
+use diagnosis::{Cause, Found, Name, Trouble};
+use durable::{first_page, set_up};
 use fault::{Refusal, Text};
 use flight::Records;
 use sqlite::{Alter, Connection, Error, ErrorCode, File as DatabaseFile, FileStore};
@@ -13,8 +14,6 @@ use std::io::Write;
 use std::os::unix::fs::MetadataExt;
 use std::rt::Files;
 use std::{fs, io};
-use storetables::first_page::first_page;
-use storetables::opening::set_up;
 
 /// A connection to a node's database.
 pub type Image = Connection<FileStore<DatabaseFile>>;

@@ -1,5 +1,5 @@
 //! The files of a run in its folder.
-use causes::{Cause, Found, Name, Trouble};
+use diagnosis::{Cause, Found, Name, Trouble};
 use fault::Refusal;
 use std::alloc::Global;
 use std::rt::Files;

@@ -1,7 +1,7 @@
 //! The flight files of one run.
 use crate::files::{Folder, no_memory, path_of};
 use answertext::outlet::WriteFault;
-use causes::{Name, Trouble};
+use diagnosis::{Name, Trouble};
 use fault::{Refusal, Text};
 use flight::flight::{Flight, Version};
 use flight::{Records, write_flight};

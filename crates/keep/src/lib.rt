@@ -7,6 +7,7 @@ pub mod hard_state;
 pub mod keeper;
 pub mod laws;
 pub mod memory;
+mod refused;
 pub mod state;
 
 pub use change::Change;

@@ -8,7 +8,7 @@ ghost use Rattle.answertext.specs.Answers.{end_text};
 ghost use Rattle.looks.specs.Bare.{bare_optional, bare_text, bare_value};
 
 use answer::{Shown, Shows};
-use literals::Literal;
+use model::literal::Literal;
 use model::stamp::Stamp;
 use model::value::Value;
 use period::SystemEnd;

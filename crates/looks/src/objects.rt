@@ -9,6 +9,7 @@ ghost use Rattle.looks.specs.Objects.{Adds, answer_tokens, array, slot_token, li
 use crate::bare::Bare;
 use answer::{Answer, Column, Shown, Shows};
 use json::Writer;
+use model::literal::Literal;
 use model::member::Member;
 use model::stamp::Stamp;
 use model::value::Value;
@@ -166,7 +167,7 @@ fn put_value(alloc: Global, value: &Value, writer: &mut Writer) -> Result<(), Al
         Value::Number(number) => writer.i64(*number),
         Value::Text(text) => writer.string(text.as_str()),
         value => {
-            let literal = literals::Literal(value);
+            let literal = Literal(value);
             put_string(alloc, literal, writer)
         }
     }

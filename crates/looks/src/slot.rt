@@ -1,7 +1,7 @@
 //! The values of tables, as people are shown them.
 use crate::bare::Bare;
 use answer::{Shown, Shows};
-use literals::Literal;
+use model::literal::Literal;
 use model::value::Value;
 use std::alloc::{AllocError, Global};
 

@@ -7,6 +7,8 @@ ghost use Rattle.model.specs.FloorRows.{SealedQuietly, StampedAbove, VoteTellsFl
 
 pub mod entry;
 pub mod event;
+mod key;
+pub mod literal;
 pub mod mark;
 pub mod member;
 pub mod message;

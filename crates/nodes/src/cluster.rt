@@ -1,23 +1,21 @@
 //! Nodes on threads of their own.
-ghost use Rattle.std.specs.Prelude.{◌≡◌, ◌≤◌, All, IfOk, IfErr, vec_len};
+ghost use Rattle.std.specs.Prelude.{◌≡◌, ◌≤◌, All, vec_len};
 ghost use Rattle.sqlread.specs.Meaning.{language_of};
-ghost use Rattle.nodes.specs.Sending.{IsUnsentRefusal};
 
-use crate::berth::{Control, Post, Report, tend};
-use crate::desk::{Desk, NoneSent, NotSent, Stopped};
+use crate::berth::{Control, Post, tend};
+use crate::desk::{Desk, Stopped};
 use crate::gate::Gate;
 use crate::handle::ClusterHandle;
 use fault::Refusal;
-use flight::life::{Life, Packet};
+use flight::life::Life;
 use keep::keeper::Keeper;
-use model::member::Member;
 use network::inboxes::open_inbox_of_one;
 use schema::Schema;
 use std::alloc::{AllocError, Global};
+use std::ops::Deref;
 use std::sync::{Arc, Mutex, Wait};
 use std::thread;
 use std::thread::{JoinHandle, Threads};
-use view::View;
 
 /// What a cluster starts from: the tables of all nodes, and for each node, from the first on, the image of its keeper.
 #[derive(Drop)]
@@ -176,8 +174,9 @@ impl Crew {
     }
 }
 
-/// Nodes, each on a thread of its own that feeds its cell what the node is sent. It is ended by `stop`, which joins each
-/// thread; it can't be dropped, and stays on the thread that started it. Other threads have a handle for its calls.
+/// Nodes, each on a thread of its own that feeds its cell what the node is sent. Its calls are those of `ClusterHandle`, for which other
+/// threads have handles of their own. It is ended by `stop`, which joins each thread; it can't be dropped, and stays on the thread that
+/// started it.
 pub struct Cluster {
     handle: ClusterHandle,
     threads: Vec<JoinHandle<Vec<Life>>>,
@@ -232,61 +231,6 @@ impl Cluster {
         self.handle.try_clone()
     }
 
-    /// `ClusterHandle::send`.
-    pub fn send<R: Wait>(
-        &self,
-        rt: &R,
-        node: Member,
-        reading: i64,
-        packet: Packet,
-    ) -> Result<u64, NotSent>
-        ensures number { IfOk result (λ number. 1 ≤ number) }
-        ensures back { IfErr result (λ e. e.packet ≡ packet) }
-        ensures refused { IfErr result (λ e. IsUnsentRefusal e.refusal) }
-    {
-        self.handle.send(rt, node, reading, packet)
-    }
-
-    /// `ClusterHandle::send_all`.
-    pub fn send_all<R: Wait>(
-        &self,
-        rt: &R,
-        node: Member,
-        reading: i64,
-        packets: Vec<Packet>,
-    ) -> Result<u64, NoneSent>
-        ensures number { IfOk result (λ number. vec_len packets ≤ number) }
-        ensures back { IfErr result (λ e. e.packets ≡ packets) }
-        ensures refused { IfErr result (λ e. IsUnsentRefusal e.refusal) }
-    {
-        self.handle.send_all(rt, node, reading, packets)
-    }
-
-    /// `ClusterHandle::report`.
-    pub fn report<R: Wait>(&self, rt: &R, node: Member) -> Result<Report, Refusal> {
-        self.handle.report(rt, node)
-    }
-
-    /// `ClusterHandle::reports`.
-    pub fn reports<R: Wait>(&self, rt: &R, node: Member) -> Result<Vec<Report>, Refusal> {
-        self.handle.reports(rt, node)
-    }
-
-    /// `ClusterHandle::view`.
-    pub fn view<R: Wait>(&self, rt: &R, node: Member) -> Result<View, Refusal> {
-        self.handle.view(rt, node)
-    }
-
-    /// `ClusterHandle::stop_node`.
-    pub fn stop_node<R: Wait>(&self, rt: &R, node: Member) -> Result<Stopped, Refusal> {
-        self.handle.stop_node(rt, node)
-    }
-
-    /// `ClusterHandle::start_node`.
-    pub fn start_node<R: Wait>(&self, rt: &R, node: Member) -> Result<(), Refusal> {
-        self.handle.start_node(rt, node)
-    }
-
     /// Ends all nodes once they have done what they were sent, joins their threads, and gives what is left of each node. The
     /// last life of a node that runs and is up ends `Up`. From then on each call of a handle is refused 41.
     pub fn stop<R: Threads + Wait>(self, rt: &R) -> Ended {
@@ -305,5 +249,14 @@ impl Cluster {
             }
         }
         ended
+    }
+}
+
+/// The calls of a cluster are those of its handle.
+impl Deref for Cluster {
+    type Target = ClusterHandle;
+
+    fn deref(&self) -> &ClusterHandle {
+        &self.handle
     }
 }

@@ -1,7 +1,10 @@
 pub mod Requests
 pub mod Brought
 pub mod Instants
+pub mod Numbers
 pub mod Telling
+pub mod Refusing
 pub mod Order
 pub mod Upkeep
+pub mod Whole
 pub mod Explained

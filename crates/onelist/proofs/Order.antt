@@ -187,13 +187,19 @@ closed_past (x ∷ xs) R i e p = go (last_entry (x ∷ xs) (omega arith))
         let u = ap above (closed_is (x ∷ xs) j d D) in omega arith
 
 module _ (language : Language) (n : ℕ) (outset : World) (O : Outset n outset) (sealed : SealedRises language n outset) where
-  pub closes_later : (early late : List Event) (m : ℕ) (x y : Node) → nth (run language n outset early).nodes m ≡ Some x → nth (run language n outset (early ++ late)).nodes m ≡ Some y →
-      StaysUp language n outset early late m → above (closed_time x) ≤ above (closed_time y)
-  closes_later early late m x y l k U =
+  -- the commit index of a member that stays up does not fall
+  pub commits_later : (early late : List Event) (m : ℕ) (x y : Node) → nth (run language n outset early).nodes m ≡ Some x → nth (run language n outset (early ++ late)).nodes m ≡ Some y →
+      StaysUp language n outset early late m → x.commit ≤ y.commit
+  commits_later early late m x y l k U =
       let joined : (es : List Event) → run language n outset (early ++ es) ≡ run language n (run language n outset early) es = λ es. run_append language n early es outset in
       let H = commit_along language n late (run language n outset early) m x l (λ mid rest z e q. U mid rest z e (subst (λ v. nth v.nodes m ≡ Some z) (sym (joined mid)) q)) in
       let same : H.0 ≡ y = same_some (nth (run language n outset (early ++ late)).nodes m) H.0 y (subst (λ v. nth v.nodes m ≡ Some H.0) (sym (joined late)) H.1) k in
-      let c : x.commit ≤ y.commit = subst (λ (v : Node). x.commit ≤ v.commit) same H.2 in
+      subst (λ (v : Node). x.commit ≤ v.commit) same H.2
+
+  pub closes_later : (early late : List Event) (m : ℕ) (x y : Node) → nth (run language n outset early).nodes m ≡ Some x → nth (run language n outset (early ++ late)).nodes m ≡ Some y →
+      StaysUp language n outset early late m → above (closed_time x) ≤ above (closed_time y)
+  closes_later early late m x y l k U =
+      let c = commits_later early late m x y l k U in
       let logs : above (closed (applied x)) ≤ above (closed (applied y)) = later_closed (applied x) (applied y) (decided language n outset (early ++ late)) (decided_rises language n outset O (early ++ late))
       (applied_begins language n outset O early late m x l) (subst (λ z. IsBeginning (applied y) (decided language n outset z)) (append-nil (early ++ late)) (applied_begins language n outset O (early ++ late) [] m y k))
       (let f = fits (early ++ late) m y k in omega (arith, length-take x.commit x.log, length-take y.commit y.log)) in

@@ -151,3 +151,39 @@ module _ (language : Language) (n : ℕ) (w : World) (m : ℕ) (told : Told) whe
   teller (Start k) out g c = absurd (none_in (Applied m told) (subst (λ z. Contains z (Applied m told)) g c))
   teller (Torn k j left) out g c = absurd (none_in (Applied m told) (subst (λ z. Contains z (Applied m told)) g c))
   teller (Ask k q) out g c = absurd (not_asked_at q k (nth w.nodes k) out c g)
+
+  -- ---- who tells had not applied it before
+
+  abbrev pub HadLess : Type 0
+  HadLess = (x : Node) × (nth w.nodes m ≡ Some x) × (x.commit < told.index)
+
+  low_effect : (k : ℕ) (x : Node) → nth w.nodes k ≡ Some x → (o : Effect) → Contains (effect_gives language w k x o) (Applied m told) → HadLess
+  low_effect k x l Nothing c = absurd (none_in (Applied m told) c)
+  low_effect k x l (Refuses r) c = absurd (not_refused k r c)
+  low_effect k x l (Moves a) c = cases (Contains-append_cases (numbered (length w.sent) a.sent) (tells language k x a.node) (Applied m told) c)
+      (λ h. absurd (not_sent (length w.sent) a.sent h))
+      (λ h. let r = told_in k (told_at language a.node.log) (x.commit + 1) (a.node.commit - x.commit) h in
+      let q = told_index a.node.log r.1 r.4 in
+      let low = r.2 in
+      (x, subst (λ i. nth w.nodes i ≡ Some x) (sym r.0) l, omega (arith, q, low)))
+
+  low_step : (k : ℕ) (j : Job) (o : Option Node) → nth w.nodes k ≡ o → Contains (step_gives language n w k j o) (Applied m told) → HadLess
+  low_step k j None l c = absurd (none_in (Applied m told) c)
+  low_step k j (Some x) l c = up x.up c
+    where
+      up : (b : Bool) → Contains (cond b (effect_gives language w k x (effect language n w k j x)) (Refused k NodeDown ∷ [])) (Applied m told) → HadLess
+      up true h = low_effect k x l (effect language n w k j x) h
+      up false h = absurd (not_refused k NodeDown h)
+
+  low_delivery : (j : Job) (o : Option Message) → Contains (delivery_gives language n w j o) (Applied m told) → HadLess
+  low_delivery j None c = absurd (none_in (Applied m told) c)
+  low_delivery j (Some p) c = low_step p.addressee j (nth w.nodes p.addressee) refl c
+
+  -- the member that tells of a request had not applied it before the event
+  pub teller_before : (e : Event) (out : List Output) → Gives language n w e out → Contains out (Applied m told) → HadLess
+  teller_before (Hand k i) out g c = low_step k (Local i) (nth w.nodes k) refl (subst (λ z. Contains z (Applied m told)) g c)
+  teller_before (Deliver k reading) out g c = low_delivery (Delivery k reading) (nth w.sent k) (subst (λ z. Contains z (Applied m told)) g c)
+  teller_before (Stop k) out g c = absurd (none_in (Applied m told) (subst (λ z. Contains z (Applied m told)) g c))
+  teller_before (Start k) out g c = absurd (none_in (Applied m told) (subst (λ z. Contains z (Applied m told)) g c))
+  teller_before (Torn k j left) out g c = absurd (none_in (Applied m told) (subst (λ z. Contains z (Applied m told)) g c))
+  teller_before (Ask k q) out g c = absurd (not_asked_at q k (nth w.nodes k) out c g)

@@ -3,3 +3,4 @@ pub mod Halves
 pub mod Places
 pub mod Ordered
 pub mod Changed
+pub mod Refusing

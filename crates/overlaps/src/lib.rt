@@ -8,6 +8,7 @@ pub mod index;
 pub mod key;
 pub mod laws;
 mod order;
+mod refused;
 
 pub use counted::{Count, Counted};
 pub use has_period::HasPeriod;

@@ -1,5 +1,5 @@
 -- What the lines of journals let happen, as they are played.
-use Rattle.std.specs.Prelude.{◌≡◌, ◌≢◌, ⊤, Bool, true, false, ℕ, Some, List, [], length}
+use Rattle.std.specs.Prelude.{◌≡◌, ◌≢◌, ◌⊎◌, ⊤, Bool, true, false, ℕ, Some, List, [], length}
 use Rattle.model.specs.Lists.{nth}
 use Rattle.keep.specs.Durable.{Durable}
 use Rattle.model.specs.declared.event.Job.{Job}
@@ -13,12 +13,14 @@ use Rattle.sessions.specs.Sessions.{later_job}
 use Rattle.journal.specs.declared.line.Taken.{Taken}
 use Rattle.journal.specs.declared.line.Line.{Line}
 use Rattle.journal.specs.declared.line.Line.TheVariants.{Opens, Rests, Life, Clock, Takes, Saves, Made, Ends, Answer, Printed}
+use Rattle.journal.specs.declared.stored.Summary.{Summary}
 use Rattle.store.specs.Recording.{job_of}
 use Rattle.sqlread.specs.declared.query.Query.{Query}
 use Rattle.world.specs.View.{event_of, outputs_of}
 use Rattle.world.specs.declared.event.Event.TheVariants.{Ask}
 use Rattle.world.specs.declared.output.Output.{Output as Out}
 use Rattle.playback.specs.Histories.{HasShown, HasStored, IsAsked, IsGiven, IsPut}
+use Rattle.playback.specs.Laters.{IsMet}
 use Rattle.playback.specs.Scenes.{Scene, StandsAs, happened, met, noting, posted, with_member, wording}
 use Rattle.playback.specs.Words.{first_told, told_in, IsSaid}
 use Rattle.playback.specs.Standings.{Standing, Down, Up, Within}
@@ -50,11 +52,15 @@ abbrev pub Rested : Scene → ℕ → Standing → Scene → Type 0
 Rested s m Up t = t ≡ happened (with_member s m Down) (Stop m)
 Rested s m standing t = t ≡ s
 
+-- Where journals are away a member is met: it goes on from something that is this in short. One that was met before goes on as it was
+abbrev pub Meets : Scene → ℕ → Summary → Scene → Type 0
+Meets s m found t = (t ≡ s) ⊎ ((s.is_later ≡ true) × IsMet s m found t)
+
 -- What a line lets happen. A step happens as its end is told, or is cut short as the member is started again
 abbrev pub Plays : Scene → Line → Scene → Type 0
-Plays s (Opens journal sum marks) t = t ≡ record s { before = length s.sent; is_head = true; words = [] }
+Plays s (Opens journal sum marks) t = t ≡ record s { before = length s.sent; is_head = true; noted = 0; words = [] }
 Plays s (Rests m stored) t = (standing : Standing) × StandsAs s m standing × Rested s m standing t
-Plays s (Life m stored) t = (mid : Scene) × GoesDown s m mid × (t ≡ with_member (met (happened mid (Start m)) stored.length) m Up)
+Plays s (Life m stored) t = (mid : Scene) × (there : Scene) × GoesDown s m mid × Meets mid m stored there × (t ≡ with_member (met (happened there (Start m)) stored.length) m Up)
 Plays s (Clock now) t = t ≡ record s { reading = now }
 Plays s (Takes m taken) t = StandsAs s m Up × IsFor s m (taken_job s taken) × (t ≡ record (with_member s m (Within (taken_job s taken))) { is_head = false })
 Plays s (Saves m stored) t = t ≡ s

@@ -101,7 +101,7 @@ impl Play {
         if told.index <= last {
             return Ok(());
         }
-        let Some(entry) = self.stage.entry(member, told.index)? else {
+        let Some(entry) = self.group.entry(member, told.index)? else {
             return Ok(());
         };
         let Some(request) = &entry.request else {

@@ -1,8 +1,9 @@
 //! What databases hold at the end.
 ghost use Rattle.std.specs.Prelude.{◌≡◌, true, IfOk, OnOk, length};
 ghost use Rattle.playback.specs.Histories.{BeginsLog, HasStored};
-ghost use Rattle.playback.specs.Playing.{IsLeft};
-ghost use Rattle.playback.specs.Scenes.{scene_of};
+ghost use Rattle.journal.specs.declared.stored.Summary.{Summary as TheSummary};
+ghost use Rattle.playback.specs.Playing.{IsLeft, Meets};
+ghost use Rattle.playback.specs.Scenes.{scene_of, Scene};
 
 use crate::making::are_same_entries;
 use crate::play::Play;
@@ -82,7 +83,7 @@ impl Play {
     {
         let mut entries = Vec::new(self.alloc);
         for before in 0..count {
-            let Some(entry) = self.stage.entry(member, before + 1)? else {
+            let Some(entry) = self.group.entry(member, before + 1)? else {
                 return Err(self.broken(member));
             };
             entries.push(entry)?;
@@ -95,7 +96,7 @@ impl Play {
         ensures same { scene_of self.new ≡ scene_of self.old }
         ensures has { IfOk result (λ stored. HasStored (scene_of self.old).history member (record { hard = stored.hard; log = stored.entries.items })) }
     {
-        let Some(state) = self.stage.durable(member)? else {
+        let Some(state) = self.group.durable(member)? else {
             return Err(self.broken(member));
         };
         Ok(Stored {
@@ -110,7 +111,8 @@ impl Play {
     /// 50 where there is no such member; 55 of the journal before the first one, where that is away and no log that is held begins as this
     /// member's did.
     pub fn left_by(&mut self, member: Member) -> Result<Stored, StoreRefusal>
-        ensures { IfOk result (λ stored. IsLeft (scene_of self.old) member (record { hard = stored.hard; log = stored.entries.items }) (scene_of self.new)) }
+        ensures { IfOk result (λ stored. (found : TheSummary) × (there : Scene) × Meets (scene_of self.old) member found there
+            × IsLeft there member (record { hard = stored.hard; log = stored.entries.items }) (scene_of self.new)) }
     {
         self.meet_told(member)?;
         self.lay_down(member)?;

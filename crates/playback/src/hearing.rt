@@ -11,11 +11,12 @@ use store::past::Hears;
 impl Play {
     // A journal begins, before which so many marks were given out. The first one that is there tells how many, where others are away.
     fn open(&mut self, marks: u64) -> Result<(), StoreRefusal>
-        ensures { OnOk result (scene_of self.new ≡ record (scene_of self.old) { before = length (scene_of self.old).sent; is_head = true; words = [] }) }
+        ensures { OnOk result (scene_of self.new ≡ record (scene_of self.old) { before = length (scene_of self.old).sent; is_head = true; noted = 0; words = [] }) }
     {
         self.sessions = self.sessions.saturating_add(1);
         self.before = self.posts.len();
         self.is_head = true;
+        self.noted = 0;
         self.words.clear();
         if self.sessions == 1 && self.first > 0 {
             self.marks = marks;

@@ -1,11 +1,10 @@
-//! The journals of a store, played again on a world: whether each outcome and answer that they tell of is what their events give, and
+//! The journals of a store, played again: whether each outcome and answer that they tell of is what their events give, and
 //! what else these give.
 #![tactic(auto)]
 
 mod actor;
 mod decided;
 mod found;
-mod group;
 mod hearing;
 mod later;
 mod lives;
@@ -13,8 +12,6 @@ mod making;
 mod play;
 mod post;
 mod printed;
-mod seat;
-mod stage;
 mod steps;
 mod stored;
 mod texts;

@@ -2,7 +2,7 @@
 ghost use Rattle.std.specs.Prelude.{◌≡◌, IfOk, OnErr, OnOk};
 ghost use Rattle.model.specs.declared.event.Left.{Left as TheLeft};
 ghost use Rattle.model.specs.Worlds.{Event as TheEvent, Start, Stop, Torn};
-ghost use Rattle.playback.specs.Playing.{GoesDown, Idles, IsDowning, Rested};
+ghost use Rattle.playback.specs.Playing.{GoesDown, Idles, IsDowning, Meets, Rested};
 ghost use Rattle.playback.specs.Scenes.{happened, met, scene_of, with_member, Scene, StandsAs};
 ghost use Rattle.playback.specs.Standings.{standing_of, Down, Standing, Up};
 
@@ -112,7 +112,7 @@ impl Play {
 
     /// A member is started, with this stored.
     pub(crate) fn begin_life(&mut self, member: Member, found: &Summary) -> Result<(), StoreRefusal>
-        ensures { OnOk result ((mid : Scene) × GoesDown (scene_of self.old) member mid × (scene_of self.new ≡ with_member (met (happened mid (Start member)) found.now.length) member Up)) }
+        ensures { OnOk result ((mid : Scene) × (there : Scene) × GoesDown (scene_of self.old) member mid × Meets mid member found.now there × (scene_of self.new ≡ with_member (met (happened there (Start member)) found.now.length) member Up)) }
     {
         self.close(member, found)?;
         self.marks = self.marks.saturating_add(1);

@@ -1,5 +1,5 @@
 //! Playing journals.
-ghost use Rattle.std.specs.Prelude.{◌≡◌, ◌<◌, ◌+◌, [], ◌∷◌, None, Some, IfOk, OnErr, OnOk, pos, replicate, vec_len};
+ghost use Rattle.std.specs.Prelude.{◌≡◌, ◌<◌, ◌+◌, [], ◌∷◌, None, Some, false, IfOk, OnErr, OnOk, pos, replicate, vec_len};
 ghost use Rattle.world.specs.View.{event_of, outputs_of};
 ghost use Rattle.playback.specs.Histories.{history_of, HasShown, IsGiven};
 ghost use Rattle.playback.specs.Scenes.{happened, outset, scene_of, standings};
@@ -8,7 +8,6 @@ ghost use Rattle.playback.specs.Standings.{standing_of, Down};
 use crate::actor::Actor;
 use crate::decided::Decided;
 use crate::post::Post;
-use crate::stage::Stage;
 use crate::texts::Texts;
 use crate::told::Word;
 use fault::Refusal;
@@ -20,11 +19,11 @@ use std::alloc::{AllocError, Global};
 use store::StoreRefusal;
 use store::held::HeldLog;
 use world::event::Event;
-use world::history::World;
 use world::output::Output;
+use world::resumed::Resumed;
 
-/// The journals of a store, played line by line on a world or, where the first ones are away, on members that go on from what they had
-/// stored. A line whose events don't give what it tells is refused:
+/// The journals of a store, played line by line on members that begin with nothing stored or, where the first journals are away, go on from
+/// what they had stored. A line whose events don't give what it tells is refused:
 /// 51 where a member begins with what it does not have there, or is about to store what it does not come to; 52 where it takes a
 /// message that was not sent to it; 54 where it tells other outcomes, or an answer or a printed outcome is another one. One that may not
 /// stand there is refused 50. One that is not refused lets exactly the events happen that it tells of: a step whole as its end is told,
@@ -32,7 +31,7 @@ use world::output::Output;
 #[derive(Drop)]
 pub struct Play {
     pub(crate) alloc: Global,
-    pub(crate) stage: Stage,
+    pub(crate) group: Resumed,
     pub(crate) actors: Vec<Actor>,
     /// Whether flights are kept.
     pub(crate) keeps: bool,
@@ -108,29 +107,29 @@ impl Play {
         schema: Schema,
         keeps: bool,
     ) -> Result<Play, StoreRefusal>
-        ensures { IfOk result (λ play. scene_of play ≡ outset members (Some (record { tables = schema; members = members; events = [] }))) }
+        ensures { IfOk result (λ play. scene_of play ≡ outset members (record { tables = schema; members = members; deeds = [] }) false) }
     {
         if members < 3 || members > 7 {
             return Err(StoreRefusal::Refused(Refusal::OutOfRange));
         }
-        let stage = Stage::World(World::new(alloc, members, schema)?);
-        Ok(Play::on(alloc, members, stage, keeps)?)
+        let group = Resumed::new(alloc, members, schema)?;
+        Ok(Play::on(alloc, members, group, keeps)?)
     }
 
-    // Before anything happened to so many members on this stage.
+    // Before a journal is heard of so many members, which are these.
     pub(crate) fn on(
         alloc: Global,
         members: usize,
-        stage: Stage,
+        group: Resumed,
         keeps: bool,
     ) -> Result<Play, AllocError>
-        ensures { IfOk result (λ play. scene_of play ≡ outset members (history_of stage)) }
+        ensures { IfOk result (λ play. scene_of play ≡ outset members (history_of group) false) }
     {
         let actors = new_actors(alloc, members)?;
         let answers = no_answers(alloc, members)?;
         Ok(Play {
             alloc,
-            stage,
+            group,
             actors,
             keeps,
             posts: Vec::new(alloc),
@@ -208,6 +207,6 @@ impl Play {
         ensures gives { IfOk result (λ outs. IsGiven (scene_of self.old).history (event_of event) (outputs_of outs.items)) }
         ensures shown { IfOk result (λ outs. HasShown (scene_of self.old).history event outs.items) }
     {
-        self.stage.happen(event)
+        self.group.happen(event)
     }
 }

@@ -61,7 +61,7 @@ impl Play {
     fn read_asked(&self, member: Member, mark: u64, query: &Text) -> Result<Query, StoreRefusal>
         ensures { IfOk result (λ asked. IsAsked (scene_of self.now).history query.now asked) }
     {
-        match read_query(self.alloc, self.stage.schema(), query.as_str()) {
+        match read_query(self.alloc, self.group.schema(), query.as_str()) {
             Ok(asked) => Ok(asked),
             Err(Refusal::NoMemory) => Err(StoreRefusal::Refused(Refusal::NoMemory)),
             Err(_) => Err(self.wrong(member, mark)),

@@ -13,7 +13,7 @@ impl Play {
     pub(crate) fn stored(&mut self, member: Member) -> Result<Option<Summary>, StoreRefusal>
         ensures { scene_of self.new ≡ scene_of self.old }
     {
-        let Some(stored) = self.stage.durable(member)? else {
+        let Some(stored) = self.group.durable(member)? else {
             return Ok(None);
         };
         let kept = self.kept(member, stored.length)?;
@@ -34,7 +34,7 @@ impl Play {
         ensures { scene_of self.new ≡ scene_of self.old }
     {
         for index in kept..length {
-            let Some(entry) = self.stage.entry(member, index.saturating_add(1))? else {
+            let Some(entry) = self.group.entry(member, index.saturating_add(1))? else {
                 return Ok(false);
             };
             self.add(member, &entry)?;
@@ -86,7 +86,7 @@ impl Play {
     fn is_known(&mut self, member: Member, index: usize) -> Result<bool, StoreRefusal>
         ensures { scene_of self.new ≡ scene_of self.old }
     {
-        let Some(entry) = self.stage.entry(member, index)? else {
+        let Some(entry) = self.group.entry(member, index)? else {
             return Ok(false);
         };
         let place = index.saturating_sub(1);

@@ -4,6 +4,8 @@
 ghost use Rattle.std.specs.Prelude.{◌≡◌, ℕ, ◌+◌, ◌==◌, if◌then◌else◌, [], OnOk, OnErr};
 ghost use Rattle.retry.specs.Judging.{number_of, outcomes_of, verdict_of, judged, with_outcome};
 
+mod refused;
+
 use fault::Refusal;
 use indexmap::IndexMap;
 use model::request::{Client, RequestNumber};

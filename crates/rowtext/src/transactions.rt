@@ -24,7 +24,7 @@ use crate::named::has_named;
 use crate::parts::{Part, put_more};
 use answertext::outlet::{Outlet, WriteFault};
 use answertext::sink::Sink;
-use literals::Literal;
+use model::literal::Literal;
 use model::value::Value;
 use period::Period;
 use schema::{Name, Schema, Table};

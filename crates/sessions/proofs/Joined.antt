@@ -5,7 +5,7 @@ use Rattle.model.specs.Lists.{IsBeginning}
 use Rattle.model.specs.Transactions.{Language}
 use Rattle.model.specs.declared.message.Message.{Message}
 use Rattle.model.specs.Members.{Node}
-use Rattle.model.specs.Worlds.{World, Event, Output, Stop, new_world, fresh, stopped, happens, run, GivesAll}
+use Rattle.model.specs.Worlds.{World, Event, Stop, new_world, fresh, stopped, happens, run, GivesAll}
 use Rattle.onelist.specs.Explained.{OneListExplains}
 use Rattle.safety.proofs.Lists.{get_replicate}
 use Rattle.safety.proofs.World.{new_outset}

@@ -1,177 +1,26 @@
 -- What the one run's events say of the sessions' own.
-use Rattle.std.proofs.Common.{◌≡◌, ℕ, zero, suc, ◌+◌, ◌-◌, ◌<◌, ◌⊎◌, inl, inr, Some, List, [], ◌∷◌, ◌++◌, map, length, replicate, slice_get, refl, sym, ap, ◌∙◌, subst, arith, length-append}
-use Rattle.std.proofs.lemmas.List.{length-map, length-replicate}
+use Rattle.std.proofs.Common.{◌≡◌, ℕ, zero, suc, ◌+◌, ◌-◌, ◌<◌, ◌≤◌, ◌⊎◌, inl, inr, Some, None, List, [], ◌∷◌, map, length, slice_get, refl, sym, ap, ◌∙◌, subst, arith, Contains}
+use Rattle.std.proofs.lemmas.List.{length-replicate}
 use Rattle.model.specs.Lists.{nth}
 use Rattle.model.specs.Transactions.{Language}
 use Rattle.model.specs.declared.entry.Entry.{Entry}
 use Rattle.model.specs.declared.entry.Request.{Request}
 use Rattle.model.specs.declared.entry.Told.{Told}
 use Rattle.model.specs.Answers.{Select, Answer}
-use Rattle.model.specs.declared.event.Job.{Job}
-use Rattle.model.specs.declared.event.Job.TheVariants.{Local, Delivery}
-use Rattle.model.specs.declared.event.Left.{Left}
 use Rattle.model.specs.Members.{Node}
-use Rattle.model.specs.Worlds.{World, Event, Hand, Deliver, Stop, Start, Torn, Ask, Output, new_world, happens, run, GivesAll}
-use Rattle.model.specs.Worlds.Output.{Applied, Answered}
+use Rattle.model.specs.Worlds.{Event, Stop, Ask, Output, new_world, fresh, GivesAll}
+use Rattle.model.specs.Worlds.Output.{Applied, Answered, Refused}
+use Rattle.fault.specs.declared.refusal.Refusal.{Refusal}
+use Rattle.fault.specs.declared.refusal.Refusal.TheVariants.{NotClosed}
 use Rattle.onelist.specs.Order.{HasRequest, Brings}
-use Rattle.onelist.specs.Explained.{Gave, IsAnswered, IsSubmitted, IsNew, Stops, CutShort, IsUnstopped, Explains, IsInOrder}
-use Rattle.safety.proofs.Lists.{none_some, same_some}
-use Rattle.sessions.specs.Kills.{stop_all, opened}
-use Rattle.sessions.specs.Sessions.{Session, events_of, AreSessions, new_databases, later_job, later, later_output, in_run, joined, joined_gave}
-use Rattle.sessions.specs.Together.{TellsAt, AnswersAt, SubmitsAt, IsBefore, IsNewAt, ExplainsSessions, OneListExplainsSessions}
-use Rattle.sessions.proofs.Lists.{further, in_front, in_either, get_map, of_map, get_there, contains_map, get_short}
-use Rattle.sessions.proofs.Joined.{one_list_explains_all}
-
--- ---- an event, counted on
-
-brings_later : (c m : ℕ) (r : Request) (e : Event) → Brings r m (later c e) → Brings r m e
-brings_later c m r (Hand k i) b = b
-brings_later c m r (Deliver k reading) b = elim b [ ]
-brings_later c m r (Stop k) b = b
-brings_later c m r (Start k) b = b
-brings_later c m r (Torn k (Local i) left) b = b
-brings_later c m r (Torn k (Delivery j reading) left) b = elim b [ ]
-brings_later c m r (Ask k q) b = b
-
-torn_by : (m k : ℕ) (i j : Job) (left : Left) → Stops m (Torn k i left) → Stops m (Torn k j left)
-torn_by m k i j left (CutShort job left') = CutShort j left
-
-stops_later : (c m : ℕ) (e : Event) → Stops m (later c e) → Stops m e
-stops_later c m (Hand k i) s = s
-stops_later c m (Deliver k reading) s = elim s [ ]
-stops_later c m (Stop k) s = s
-stops_later c m (Start k) s = s
-stops_later c m (Torn k (Local i) left) s = s
-stops_later c m (Torn k (Delivery j reading) left) s = torn_by m k (later_job c (Delivery j reading)) (Delivery j reading) left s
-stops_later c m (Ask k q) s = s
-
-stop_brings_none : (m k : ℕ) (r : Request) → Brings r m (Stop k) → ⊥
-stop_brings_none m k r b = elim b [ ]
-
--- ---- where an event stands
-
-stop_length : (n : ℕ) → length (stop_all n) ≡ n
-stop_length zero = refl
-stop_length (suc n) = ap suc (stop_length n)
-
-stop_only : (n p : ℕ) (e : Event) → slice_get (stop_all n) p ≡ Some e → (m : ℕ) × (e ≡ Stop m)
-stop_only zero p e h = absurd (none_some (slice_get {X = Event} [] p) e refl h)
-stop_only (suc n) zero e h = (suc n, same_some (Some e) e (Stop (suc n)) refl (sym h))
-stop_only (suc n) (suc p) e h = stop_only n p e h
-
-gives_length : (language : Language) (n : ℕ) (es : List Event) (w : World) (outs : List (List Output)) → GivesAll language n w es outs → length outs ≡ length es
-gives_length language n [] w outs p = ap length p
-gives_length language n (e ∷ es) w outs (out, rest, p, g, more) = ap length p ∙ ap suc (gives_length language n es (happens language n w e) rest more)
-
-module _ (language : Language) (n : ℕ) where
-  -- where the event of number k of the session of number i stands, all counted from 0
-  abbrev spot : List Session → ℕ → ℕ → ℕ
-  spot [] i k = 0
-  spot (s ∷ ss) zero k = n + k
-  spot (s ∷ ss) (suc i) k = n + length (events_of s) + spot ss i k
-
-  run_long : (w : World) (s : Session) → length (in_run n w s) ≡ n + length (events_of s)
-  run_long w s =
-      let a = length-append (stop_all n) (map (later (length w.sent)) (events_of s)) in
-      let b = length-map (events_of s) (later (length w.sent)) in
-      let c = stop_length n in omega arith
-
-  event_at : (ss : List Session) (w : World) (i k : ℕ) (s : Session) (e : Event) → slice_get ss i ≡ Some s → slice_get (events_of s) k ≡ Some e → (c : ℕ) × (slice_get (joined language n w ss) (spot ss i k) ≡ Some (later c e))
-  event_at [] w i k s e p q = absurd (none_some (slice_get {X = Session} [] i) s refl p)
-  event_at (t ∷ ts) w zero k s e p q =
-      let c = length w.sent in
-      let rest = joined language n (run language n w (in_run n w t)) ts in
-      let h : slice_get (events_of t) k ≡ Some e = subst (λ z. slice_get (events_of z) k ≡ Some e) (same_some (Some t) s t p refl) q in
-      (c, in_front (in_run n w t) rest (n + k) (later c e) (ap (λ z. slice_get (in_run n w t) (z + k)) (sym (stop_length n)) ∙ further (stop_all n) (map (later c) (events_of t)) k ∙ get_map (later c) (events_of t) k e h))
-  event_at (t ∷ ts) w (suc i) k s e p q =
-      let v = run language n w (in_run n w t) in
-      let r = event_at ts v i k s e p q in
-      (r.0, ap (λ z. slice_get (joined language n w (t ∷ ts)) (z + spot ts i k)) (sym (run_long w t)) ∙ further (in_run n w t) (joined language n v ts) (spot ts i k) ∙ r.1)
-
-  gave_at : (ss : List Session) (found : List Node) (w : World) → AreSessions language n found ss → (i k : ℕ) (s : Session) (out : List Output) → slice_get ss i ≡ Some s → slice_get s.gave k ≡ Some out →
-      (c : ℕ) × (slice_get (joined_gave language n w ss) (spot ss i k) ≡ Some (map (later_output c) out))
-  gave_at [] found w A i k s out p q = absurd (none_some (slice_get {X = Session} [] i) s refl p)
-  gave_at (t ∷ ts) found w (T, A) zero k s out p q =
-      let c = length w.sent in
-      let rest = joined_gave language n (run language n w (in_run n w t)) ts in
-      let mine = map (map (later_output c)) t.gave in
-      let none : List (List Output) = replicate n [] in
-      let h : slice_get t.gave k ≡ Some out = subst (λ z. slice_get z.gave k ≡ Some out) (same_some (Some t) s t p refl) q in
-      (c, in_front (none ++ mine) rest (n + k) (map (later_output c) out) (ap (λ z. slice_get (none ++ mine) (z + k)) (sym (length-replicate n [])) ∙ further none mine k ∙ get_map (map (later_output c)) t.gave k out h))
-  gave_at (t ∷ ts) found w (T, A) (suc i) k s out p q =
-      let c = length w.sent in
-      let v = run language n w (in_run n w t) in
-      let mine = map (map (later_output c)) t.gave in
-      let none : List (List Output) = replicate n [] in
-      let r = gave_at ts t.left v A i k s out p q in
-      let long : length (none ++ mine) ≡ n + length (events_of t) =
-      length-append none mine ∙ ap (λ z. z + length mine) (length-replicate n []) ∙ ap (λ z. n + z) (length-map t.gave (map (later_output c)) ∙ gives_length language n (events_of t) (opened found) t.gave T.gives) in
-      (r.0, ap (λ z. slice_get (joined_gave language n w (t ∷ ts)) (z + spot ts i k)) (sym long) ∙ further (none ++ mine) (joined_gave language n v ts) (spot ts i k) ∙ r.1)
-
-  -- an event of the run that is one of a session
-  record Located (ss : List Session) (p : ℕ) (e : Event) : Type 0 where
-    pub i : ℕ
-    pub k : ℕ
-    pub session : Session
-    pub at : slice_get ss i ≡ Some session
-    pub event : Event
-    pub here : slice_get (events_of session) k ≡ Some event
-    pub sent : ℕ
-    pub same : later sent event ≡ e
-    pub place : spot ss i k ≡ p
-
-  abbrev Found : List Session → ℕ → Event → Type 0
-  Found ss p e = ((m : ℕ) × (e ≡ Stop m)) ⊎ Located ss p e
-
-  locate : (ss : List Session) (w : World) (p : ℕ) (e : Event) → slice_get (joined language n w ss) p ≡ Some e → Found ss p e
-  locate [] w p e h = absurd (none_some (slice_get {X = Event} [] p) e refl h)
-  locate (t ∷ ts) w p e h = go (λ q s. locate ts (run language n w (in_run n w t)) q e s) (in_either (in_run n w t) (joined language n (run language n w (in_run n w t)) ts) p e h)
-    where
-      v : World
-      v = run language n w (in_run n w t)
-
-      c : ℕ
-      c = length w.sent
-
-      mine : (slice_get (stop_all n) p ≡ Some e) ⊎ ((q : ℕ) × (length (stop_all n) + q ≡ p) × (slice_get (map (later c) (events_of t)) q ≡ Some e)) → Found (t ∷ ts) p e
-      mine (inl s) = inl (stop_only n p e s)
-      mine (inr (q, l, s)) =
-          let x = of_map (later c) (events_of t) q e s in
-          inr (record { i = 0; k = q; session = t; at = refl; event = x.0; here = x.1; sent = c; same = x.2; place = ap (λ z. z + q) (sym (stop_length n)) ∙ l })
-
-      next : (q : ℕ) → length (in_run n w t) + q ≡ p → Found ts q e → Found (t ∷ ts) p e
-      next q l (inl s) = inl s
-      next q l (inr L) = inr (record {
-        i = suc L.i;
-        k = L.k;
-        session = L.session;
-        at = L.at;
-        event = L.event;
-        here = L.here;
-        sent = L.sent;
-        same = L.same;
-        place = ap (λ z. n + length (events_of t) + z) L.place ∙ ap (λ z. z + q) (sym (run_long w t)) ∙ l;
-      })
-
-      go : ((q : ℕ) → slice_get (joined language n v ts) q ≡ Some e → Found ts q e) → (slice_get (in_run n w t) p ≡ Some e) ⊎ ((q : ℕ) × (length (in_run n w t) + q ≡ p) × (slice_get (joined language n v ts) q ≡ Some e)) → Found (t ∷ ts) p e
-      go more (inl s) = mine (in_either (stop_all n) (map (later c) (events_of t)) p e s)
-      go more (inr (q, l, s)) = next q l (more q s)
-
-  spot_before : (ss : List Session) (i k h j : ℕ) (s : Session) → slice_get ss i ≡ Some s → k < length (events_of s) → spot ss h j < spot ss i k → (h < i) ⊎ ((h ≡ i) × (j < k))
-  spot_before [] i k h j s p l q = absurd (none_some (slice_get {X = Session} [] i) s refl p)
-  spot_before (t ∷ ts) zero k zero j s p l q = inr (refl, omega (arith, q))
-  spot_before (t ∷ ts) zero k (suc h) j s p l q = let e = ap (λ z. length (events_of z)) (same_some (Some t) s t p refl) in absurd (omega (arith, q, l, e))
-  spot_before (t ∷ ts) (suc i) k zero j s p l q = inl (omega arith)
-  spot_before (t ∷ ts) (suc i) k (suc h) j s p l q = go (spot_before ts i k h j s p l (omega (arith, q)))
-    where
-      go : (h < i) ⊎ ((h ≡ i) × (j < k)) → (suc h < suc i) ⊎ ((suc h ≡ suc i) × (j < k))
-      go (inl a) = inl (omega (arith, a))
-      go (inr (a, b)) = inr (ap suc a, b)
-
-  spot_from : (ss : List Session) (i k : ℕ) (s : Session) → slice_get ss i ≡ Some s → spot ss i k ≡ spot ss i 0 + k
-  spot_from [] i k s p = absurd (none_some (slice_get {X = Session} [] i) s refl p)
-  spot_from (t ∷ ts) zero k s p = omega arith
-  spot_from (t ∷ ts) (suc i) k s p = let h = spot_from ts i k s p in omega (arith, h)
+use Rattle.onelist.specs.Explained.{Gave, IsAnswered, IsPutOff, IsSubmitted, IsNew, Stops, IsUnstopped, HasTold, Explains, IsInOrder}
+use Rattle.safety.proofs.Lists.{cases, none_some, same_some}
+use Rattle.sessions.specs.Kills.{opened}
+use Rattle.sessions.specs.Sessions.{Session, events_of, AreSessions, new_databases, later, later_output, joined, joined_gave}
+use Rattle.sessions.specs.Together.{TellsAt, AnswersAt, PutsOffAt, RefusesAt, SubmitsAt, IsBefore, IsNewAt, StaysUpAt, ExplainsSessions, OneListExplainsSessions}
+use Rattle.sessions.proofs.Lists.{get_there, contains_map, get_short}
+use Rattle.sessions.proofs.Places.{own_tells, Teller, teller_at, brings_later, stops_later, stop_brings_none, gives_length, spot, event_at, gave_at, Found, locate, spot_before, spot_from, stop_between}
+use Rattle.sessions.proofs.Joined.{new_ended, all_give, one_list_explains_all}
 
 -- ---- what the run's list says of the sessions
 
@@ -208,6 +57,11 @@ module _ (language : Language) (n : ℕ) (sessions : List Session) (A : AreSessi
   answers_in : (i k m : ℕ) (q : Select) (a : Answer) → AnswersAt sessions i k m q a → IsAnswered events outs (place i k) m q a
   answers_in i k m q a (s, p, (e, g)) = ((event_in i k s (Ask m q) p e).1, (gave_in i k s (Answered m a) p g).1)
 
+  puts_off_in : (i k m : ℕ) (q : Select) → PutsOffAt sessions i k m q → IsPutOff events outs (place i k) m q
+  puts_off_in i k m q (s, p, (e, (closed, g))) =
+      let refused = Refused m (NotClosed closed) in
+      ((event_in i k s (Ask m q) p e).1, (closed, (gave_in i k s refused p g).1))
+
   -- who submitted
   record Submitted (p : ℕ) (r : Request) : Type 0 where
     pub i : ℕ
@@ -224,22 +78,27 @@ module _ (language : Language) (n : ℕ) (sessions : List Session) (A : AreSessi
       go (inr L) = record { i = L.i; k = L.k; submits = (L.session, L.at, (m, L.event, L.here, brings_later L.sent m r L.event (subst (Brings r m) (sym L.same) b))); there = ap suc L.place }
 
   -- how many events a session has
-  gave_short : (ss : List Session) (found : List Node) → AreSessions language n found ss → (i k : ℕ) (s : Session) (out : List Output) → slice_get ss i ≡ Some s → slice_get s.gave k ≡ Some out → k < length (events_of s)
-  gave_short [] found B i k s out p q = absurd (none_some (slice_get {X = Session} [] i) s refl p)
-  gave_short (t ∷ ts) found (T, B) zero k s out p q =
-      let e : s ≡ t = same_some (Some t) s t p refl in
+  as_many : (ss : List Session) (found : List Node) → AreSessions language n found ss → (i : ℕ) (s : Session) →
+      slice_get ss i ≡ Some s → length s.gave ≡ length (events_of s)
+  as_many [] found B i s p = absurd (none_some (slice_get {X = Session} [] i) s refl p)
+  as_many (t ∷ ts) found (T, B) zero s p =
+      let same : t ≡ s = same_some (Some t) t s refl p in
+      let many = gives_length language n (events_of t) (opened found) t.gave T.gives in
+      subst (λ z. length z.gave ≡ length (events_of z)) same many
+  as_many (t ∷ ts) found (T, B) (suc i) s p = as_many ts t.left B i s p
+
+  gave_short : (i k : ℕ) (s : Session) (out : List Output) → slice_get sessions i ≡ Some s → slice_get s.gave k ≡ Some out →
+      k < length (events_of s)
+  gave_short i k s out p q =
       let h = get_short s.gave k out q in
-      let l = gives_length language n (events_of t) (opened found) t.gave T.gives in
-      let a = ap (λ z. length z.gave) e in
-      let b = ap (λ z. length (events_of z)) e in omega (arith, h, l, a, b)
-  gave_short (t ∷ ts) found (T, B) (suc i) k s out p q = gave_short ts t.left B i k s out p q
+      let l = as_many sessions (new_databases n) A i s p in omega (arith, h, l)
 
   new_in : (i k : ℕ) (s : Session) (o : Output) (r : Request) → nth sessions i ≡ Some s → Gave s.gave k o → IsNewAt sessions i k r → IsNew events (place i k) r
   new_in zero k s o r p g new = absurd (none_some (nth sessions 0) s refl p)
   new_in (suc i) zero s o r p (out, q, h) new = absurd (none_some (nth s.gave 0) out refl q)
   new_in (suc i) (suc k) s o r p (out, q, h) new = λ j l S.
       let L = submitted_in j r S in
-      new (suc L.i) (suc L.k) (go L.i L.k (spot_before language n sessions i k L.i L.k s p (gave_short sessions (new_databases n) A i k s out p q) (let e = L.there in omega (arith, e, l)))) L.submits
+      new (suc L.i) (suc L.k) (go L.i L.k (spot_before language n sessions i k L.i L.k s p (let h = gave_short i k s out p q in omega (arith, h)) (let e = L.there in omega (arith, e, l)))) L.submits
     where
       go : (a b : ℕ) → (a < i) ⊎ ((a ≡ i) × (b < k)) → IsBefore (suc a) (suc b) (suc i) (suc k)
       go a b (inl x) = inl (omega (arith, x))
@@ -262,11 +121,112 @@ module _ (language : Language) (n : ℕ) (sessions : List Session) (A : AreSessi
           let d = t - spot language n sessions i 0 in
           let f : spot language n sessions i 0 + d ≡ t = omega (arith, a, x) in
           let at : spot language n sessions i d ≡ t = spot_from language n sessions i d s p ∙ f in
-          let short = gave_short sessions (new_databases n) A i k s out p q in
+          let short = gave_short i k s out p q in
           let E = get_there (events_of s) d (omega (arith, f, b, y, short)) in
           let W = event_at language n sessions (new_world n) i d s E.0 p E.1 in
           let same : e ≡ later W.0 E.0 = same_some (slice_get events t) e (later W.0 E.0) z (subst (λ v. slice_get events v ≡ Some (later W.0 E.0)) {y = t} at W.1) in
           U (suc d) E.0 (omega (arith, f, a, x)) (omega (arith, f, b, y)) E.1 (stops_later W.0 m E.0 (subst (Stops m) {y = later W.0 E.0} same stops))
+
+  -- at this event it was given
+  abbrev GaveAt : ℕ → ℕ → Output → Type 0
+  GaveAt i k o = (s : Session) × (nth sessions i ≡ Some s) × Gave s.gave k o
+
+  -- a session is found once
+  same_gave : (i k : ℕ) (s : Session) (o : Output) → nth sessions i ≡ Some s → GaveAt i k o → Gave s.gave k o
+  same_gave i k s o p (t, q, g) = subst (λ z. Gave z.gave k o) (same_some (nth sessions i) t s q p) g
+
+  stays_up_in : (i m j k : ℕ) (o u : Output) → j < k → GaveAt i j o → GaveAt i k u → StaysUpAt sessions i m j k →
+      (place i j < place i k) × IsUnstopped events m (place i j) (place i k)
+  stays_up_in i m j k o u l (s, p, g) h U = unstopped_in i m j k s o u p l g (same_gave i k s u p h) (U s p)
+
+  -- a member that tells in the run, at an event of a session
+  record Tells (p m : ℕ) (told : Told) : Type 0 where
+    pub i : ℕ
+    pub k : ℕ
+    pub tells : TellsAt sessions (suc i) (suc k) m told
+    pub there : place (suc i) (suc k) ≡ p
+    pub first : 1 ≤ m
+    pub last : m ≤ n
+
+  tells_of : (p m : ℕ) (told : Told) → Gave outs p (Applied m told) → Tells p m told
+  tells_of zero m told (out, q, c) = absurd (none_some (nth outs 0) out refl q)
+  tells_of (suc p) m told (out, q, c) = go (locate language n sessions (new_world n) p T.event T.at)
+    where
+      G : GivesAll language n (new_world n) events outs
+      G = all_give language n sessions (new_databases n) (new_world n) (new_ended language n) A
+
+      T : Teller m (length (new_world n).nodes) events p
+      T = teller_at language n m told events (new_world n) outs G p out q c
+
+      go : Found language n sessions p T.event → Tells (suc p) m told
+      go (inl (k, s)) = absurd (T.no_stop k s)
+      go (inr L) =
+          let many = as_many sessions (new_databases n) A L.i L.session L.at in
+          let short = get_short (events_of L.session) L.k L.event L.here in
+          let own = get_there L.session.gave L.k (omega (arith, many, short)) in
+          let W = gave_at language n sessions (new_databases n) (new_world n) A L.i L.k L.session own.0 L.at own.1 in
+          let these = map (later_output W.0) own.0 in
+          let here : slice_get outs p ≡ Some these = subst (λ v. slice_get outs v ≡ Some these) L.place W.1 in
+          let same : out ≡ these = same_some (slice_get outs p) out these q here in
+          let d = own_tells W.0 m told own.0 (subst (λ z. Contains z (Applied m told)) same c) in
+          record {
+            i = L.i;
+            k = L.k;
+            tells = (L.session, L.at, (own.0, own.1, d));
+            there = ap suc L.place;
+            first = T.first;
+            last = subst (λ z. m ≤ z) (length-replicate n (fresh 0 None)) T.last;
+          }
+
+  -- who has told in the run since it was last stopped has told so in the session: a stop of all stands before that
+  told_in : (i k m index : ℕ) (s : Session) (o : Output) → nth sessions i ≡ Some s → Gave s.gave k o →
+      HasTold events outs (place i k) m index → HasTold (events_of s) s.gave k m index
+  told_in zero k m index s o p g H = absurd (none_some (nth sessions 0) s refl p)
+  told_in (suc i) zero m index s o p (out, q, h) H = absurd (none_some (nth s.gave 0) out refl q)
+  told_in (suc i) (suc k) m index s o p (out, q, h) (at, told, le, gave, is, up) =
+      cases (spot_before language n sessions i (suc k) F.i F.k s p short before) earlier here
+    where
+      F : Tells at m told
+      F = tells_of at m told gave
+
+      short : suc k ≤ length (events_of s)
+      short = gave_short i k s out p q
+
+      from : (x : ℕ) → spot language n sessions i x ≡ spot language n sessions i 0 + x
+      from x = spot_from language n sessions i x s p
+
+      next : spot language n sessions i (suc k) ≡ suc (spot language n sessions i k)
+      next = let a = from k in let b = from (suc k) in omega (arith, a, b)
+
+      before : spot language n sessions F.i F.k < spot language n sessions i (suc k)
+      before = let e = F.there in let z = next in omega (arith, e, le, z)
+
+      earlier : F.i < i → HasTold (events_of s) s.gave (suc k) m index
+      earlier l =
+          let (t, r, (own, u, c)) = F.tells in
+          let within = gave_short F.i F.k t own r u in
+          let stops = stop_between language n sessions (new_world n) F.i F.k i m t s r within p l F.first F.last in
+          let (x, a, b, e) = stops in
+          let there = F.there in
+          let z = from k in absurd (up (suc x) (omega (arith, there, a)) (omega (arith, z, b)) e)
+
+      here : (F.i ≡ i) × (F.k < suc k) → HasTold (events_of s) s.gave (suc k) m index
+      here (same, l) =
+          (suc F.k, told, omega (arith, l), same_gave (suc i) (suc F.k) s (Applied m told) p mine, is, stays)
+        where
+          mine : TellsAt sessions (suc i) (suc F.k) m told
+          mine = subst (λ z. TellsAt sessions (suc z) (suc F.k) m told) same F.tells
+
+          stays : (x : ℕ) → suc F.k < x → x < suc k → nth (events_of s) x ≡ Some (Stop m) → ⊥
+          stays zero a b e = omega (arith, a)
+          stays (suc x) a b e =
+              let W = event_in (suc i) (suc x) s (Stop m) p e in
+              let moved = ap (λ z. spot language n sessions z F.k) same in
+              let there = F.there in
+              let c = from F.k in
+              let d = from x in
+              let z = from k in
+              up (place (suc i) (suc x)) (omega (arith, moved, there, c, d, a)) (omega (arith, d, z, b)) W.1
 
   submitted : (r : Request) → HasRequest list r → (i : ℕ) × (k : ℕ) × SubmitsAt sessions i k r
   submitted r R = let S = X.brought.submitted r R in let L = submitted_in S.0 r S.1 in (suc L.i, suc L.k, L.submits)
@@ -278,6 +238,15 @@ module _ (language : Language) (n : ℕ) (sessions : List Session) (A : AreSessi
       let M = submitted_in (X.brought.submitted s S).0 s (X.brought.submitted s S).1 in
       X.brought.apart r s R S (sym L.there ∙ ap (λ z. place z (suc L.k)) p ∙ ap (place (suc M.i)) q ∙ M.there)
 
+  unrefused : (r : Request) (R : HasRequest list r) (m : ℕ) (why : Refusal) →
+      RefusesAt sessions (submitted r R).0 (submitted r R).1 m why → ⊥
+  unfolding submitted
+  unrefused r R m why (s, p, g) =
+      let S = X.brought.submitted r R in
+      let L = submitted_in S.0 r S.1 in
+      let refused = (gave_in (suc L.i) (suc L.k) s (Refused m why) p g).1 in
+      X.unrefused r R m why (subst (λ z. Gave outs z (Refused m why)) L.there refused)
+
   pub explains_sessions : ExplainsSessions language sessions list
   explains_sessions = record {
     stamped = X.stamped;
@@ -287,14 +256,33 @@ module _ (language : Language) (n : ℕ) (sessions : List Session) (A : AreSessi
     apart = apart;
     told_then_submitted = λ i k m told r R T new. O.told_then_submitted (place i k) m told r R (tells_in i k m told T) (new_in i k T.0 (Applied m told) r T.1 T.2 new);
     answered_then_submitted = λ i k m q a r R T new. O.answered_then_submitted (place i k) m q a r R (answers_in i k m q a T) (new_in i k T.0 (Answered m a) r T.1 T.2.1 new);
+    unrefused = unrefused;
+    reads = X.reads;
+    told_whole = λ i k m told r R T low.
+        let H = X.told_whole (place i k) m told r R (tells_in i k m told T) low in
+        (T.0, T.1, told_in i k m R.index T.0 (Applied m told) T.1 T.2 H);
+    answered_whole = λ i k m q a r R T low.
+        let H = X.answered_whole (place i k) m q a r R (answers_in i k m q a T) low in
+        (T.0, T.1, told_in i k m R.index T.0 (Answered m a) T.1 T.2.1 H);
     told_then_asked = λ i j k m told I q a l T S t U.
-        let g : Gave T.0.gave k (Answered m a) = subst (λ z. Gave z.gave k (Answered m a)) (same_some (nth sessions i) S.0 T.0 S.1 T.1) S.2.1 in
-        let V = unstopped_in i m j k T.0 (Applied m told) (Answered m a) T.1 l T.2 g (U T.0 T.1) in
-        O.told_then_asked (place i j) (place i k) m told I q a V.0 (tells_in i j m told T) (answers_in i k m q a S) t V.1;
+        let V = stays_up_in i m j k (Applied m told) (Answered m a) l T (S.0, S.1, S.2.1) U in
+        let answers = answers_in i k m q a S in
+        O.told_then_asked (place i j) (place i k) m told I q a V.0 (tells_in i j m told T) answers t V.1;
     answered_then_asked = λ i j k m q r a b l T S t U.
-        let g : Gave T.0.gave k (Answered m b) = subst (λ z. Gave z.gave k (Answered m b)) (same_some (nth sessions i) S.0 T.0 S.1 T.1) S.2.1 in
-        let V = unstopped_in i m j k T.0 (Answered m a) (Answered m b) T.1 l T.2.1 g (U T.0 T.1) in
-        O.answered_then_asked (place i j) (place i k) m q r a b V.0 (answers_in i j m q a T) (answers_in i k m r b S) t V.1;
+        let V = stays_up_in i m j k (Answered m a) (Answered m b) l (T.0, T.1, T.2.1) (S.0, S.1, S.2.1) U in
+        let answers = answers_in i k m r b S in
+        O.answered_then_asked (place i j) (place i k) m q r a b V.0 (answers_in i j m q a T) answers t V.1;
+    told_then_put_off = λ i j k m told I q l T S U.
+        let V = stays_up_in i m j k (Applied m told) (Refused m (NotClosed S.2.1.0)) l T (S.0, S.1, S.2.1.1) U in
+        O.told_then_put_off (place i j) (place i k) m told I q V.0 (tells_in i j m told T) (puts_off_in i k m q S) V.1;
+    answered_then_put_off = λ i j k m q r a l T S U.
+        let refused = Refused m (NotClosed S.2.1.0) in
+        let V = stays_up_in i m j k (Answered m a) refused l (T.0, T.1, T.2.1) (S.0, S.1, S.2.1.1) U in
+        let put_off = puts_off_in i k m r S in
+        O.answered_then_put_off (place i j) (place i k) m q r a V.0 (answers_in i j m q a T) put_off V.1;
+    told_then_told = λ i j k m a b l T S U.
+        let V = stays_up_in i m j k (Applied m a) (Applied m b) l T S U in
+        O.told_then_told (place i j) (place i k) m a b V.0 (tells_in i j m a T) (tells_in i k m b S) V.1;
   }
 
 pub one_list_explains_sessions : (language : Language) (n : ℕ) → OneListExplainsSessions language n

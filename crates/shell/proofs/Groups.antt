@@ -13,7 +13,7 @@ use Rattle.std.proofs.lemmas.List.Elements.{All-append, All-contains, All-map, C
 use Rattle.std.proofs.lemmas.List.Sorted.{IsPermutation-sym, IsPermutation-map, IsPermutation-pop_more, All-permutation, Contains-permutation, length_permutation}
 use Rattle.std.proofs.lemmas.Bool.{cases_lt}
 use Rattle.flight.specs.Contents.{FlightContents, in_flight, in_life}
-use Rattle.flightread.specs.Files.{IsFileOf, IsOnlyOf, IsNoFile}
+use Rattle.flight.specs.Files.{IsFileOf, IsOnlyOf, IsNoFile}
 use Rattle.flight.specs.Ranges.{IsFlight}
 use Rattle.flight.specs.Spelling.{flight_text}
 use Rattle.flight.specs.declared.flight.Flight.{Flight}

@@ -10,9 +10,8 @@ ghost use Rattle.shell.specs.Group.{AreFilesOf, IsNoGroup, IsRunIn};
 ghost use Rattle.shell.specs.Reading.{AreRead, InOrder, LacksNode};
 
 use fault::Refusal;
-use flight::Records;
 use flight::flight::{Flight, Version};
-use flightread::read_flight;
+use flight::{Records, read_flight};
 use model::member::Member;
 use schema::Schema;
 use schemaread::laws::schema_says;

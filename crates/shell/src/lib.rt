@@ -16,3 +16,4 @@ pub mod since_run;
 pub mod source;
 pub mod stop;
 mod verdict;
+mod words;

@@ -19,7 +19,7 @@ use crate::sim::read_text;
 use crate::stop::Stop;
 use crate::verdict::verdict_in;
 use answertext::outlet::{Outlet, tell};
-use causes::{Cause, Found, Name, Trouble};
+use diagnosis::{Cause, Found, Name, Trouble};
 use durable::SqlKeeper;
 use fault::{Refusal, Text};
 use flight::Records;

@@ -3,7 +3,7 @@ ghost use Rattle.std.specs.Prelude.{◌≡◌};
 ghost use Rattle.fault.specs.declared.refusal.Refusal.TheVariants.{NoMemory};
 ghost use Rattle.script.specs.declared.run_fault.RunFault.TheVariants.{Refused, Output};
 
-use causes::{Cause, Found, Name, Trouble, why_no_group};
+use diagnosis::{Cause, Found, Name, Trouble, why_no_group};
 use fault::Refusal;
 use script::run_fault::RunFault;
 use std::alloc::{AllocError, AllocFailed, Global};

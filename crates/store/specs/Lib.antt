@@ -7,6 +7,7 @@ pub mod Closing
 pub mod Continuing
 pub mod Fullness
 pub mod Going
+pub mod Handing
 pub mod Held
 pub mod HeldAt
 pub mod Journals

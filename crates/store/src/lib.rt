@@ -6,6 +6,7 @@ pub mod beginnings;
 pub mod chain;
 pub mod databases;
 pub mod device;
+pub mod found;
 pub mod held;
 pub mod known;
 mod leading;

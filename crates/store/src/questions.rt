@@ -3,6 +3,7 @@ ghost use Rattle.std.specs.Prelude.{◌≡◌, ◌-◌, ℕ, List, Option, IsErr
 ghost use Rattle.store.specs.Asking.{IsAnswerOf};
 ghost use Rattle.answertext.specs.Answers.{answer_text};
 ghost use Rattle.store.specs.Going.{GoesOn};
+ghost use Rattle.store.specs.Handing.{Asks};
 ghost use Rattle.store.specs.Journals.{IsSpent, EndsWith, IsSettled, IsUnclosed};
 ghost use Rattle.store.specs.Refusals.{IsOfJournal};
 
@@ -130,13 +131,10 @@ where
     /// member is not up. 38, 40 and 43 where the journal can't be written; of a store that was spent before nothing changes then.
     #[tactic(auto, using(crate::proofs::Going::stays))]
     pub fn ask(&mut self, reading: i64, member: Member, text: &str) -> Result<Answer, StoreRefusal>
-        ensures told { IfOk result (λ a. EndsWith K.Journal.contents self.new.scribe (Line.Answer member text.now (answer_text a))) }
-        ensures settled { OnOk result (IsSettled K.Journal.is_settled self.new.scribe) }
-        ensures asked { IfOk result (λ a. MatchOption (slice_get self.new.seats.items (member - 1)) ⊥ (λ seat. MatchOption seat.node ⊥ (λ n. IsAnswerOf K.is_honest n self.new.schema text.now a))) }
-        ensures unclosed { IfErr result (IsUnclosed K.Journal.contents self.new.scribe member text.now) }
-        ensures refused { IfErr result (λ r. (closed : Option (List ℕ)) → r ≡ StoreRefusal.Refused (Refusal.NotClosed closed) → IsSettled K.Journal.is_settled self.new.scribe) }
+        ensures asks { Asks K.Journal.contents K.Journal.is_settled K.is_honest
+            (λ a. member) (λ a. a) text.now self.old self.new result }
         ensures goes { GoesOn K.Journal.contents K.is_honest K.may_hold K.holds self.old self.new }
-        ensures spent { IsSpent self.old.scribe → IsErr result × (self.new ≡ self.old) }
+        ensures unclosed { IfErr result (IsUnclosed K.Journal.contents self.new.scribe member text.now) }
     {
         self.check()?;
         let alloc = self.alloc;
@@ -158,10 +156,10 @@ where
 
     /// Asks the leader, or where none is known the first member that is up: who was asked, and what `ask` gives.
     pub fn ask_any(&mut self, reading: i64, text: &str) -> Result<(Member, Answer), StoreRefusal>
-        ensures told { IfOk result (λ p. EndsWith K.Journal.contents self.new.scribe (Line.Answer p.0 text.now (answer_text p.1))) }
-        ensures settled { OnOk result (IsSettled K.Journal.is_settled self.new.scribe) }
+        ensures asks { Asks K.Journal.contents K.Journal.is_settled K.is_honest
+            (λ p. p.0) (λ p. p.1) text.now self.old self.new result }
         ensures goes { GoesOn K.Journal.contents K.is_honest K.may_hold K.holds self.old self.new }
-        ensures spent { IsSpent self.old.scribe → IsErr result × (self.new ≡ self.old) }
+        ensures unclosed { IfErr result (λ r. (asked : ℕ) × IsUnclosed K.Journal.contents self.new.scribe asked text.now r) }
     {
         let member = self.first_asked();
         let answer = self.ask(reading, member, text)?;

@@ -3,7 +3,7 @@ ghost use Rattle.std.specs.Prelude.{◌≡◌, ◌≤◌, ◌⊎◌, Some, None,
 ghost use Rattle.store.specs.Going.{Anywhere, ComesOf, GoesOn, GoesOnSo, IsOutcome};
 ghost use Rattle.store.specs.Journals.{IsSpent, EndsWith, IsSettled};
 ghost use Rattle.store.specs.Refusals.{IsOfJournal, log_full};
-ghost use Rattle.store.specs.Fullness.{entries_of, longest};
+ghost use Rattle.store.specs.Handing.{HandsIn};
 ghost use Rattle.store.specs.Words.{words_of};
 
 use crate::announcing::Announces;
@@ -182,14 +182,12 @@ where
         number: RequestNumber,
         text: &str,
     ) -> Result<Outcome, StoreRefusal>
-        ensures told { IfOk result (λ o. EndsWith K.Journal.contents self.new.scribe (Line.Printed client number (words_of o))) }
+        ensures hands_in { HandsIn K.Journal.contents client (λ o. number) (λ o. o) self.old self.new result }
+        ensures goes { GoesOnSo K.Journal.contents K.is_honest K.may_hold K.holds Anywhere
+            (λ gave. IfOk result (λ o. ComesOf client number o gave)) self.old self.new }
         ensures settled { OnOk result (IsSettled K.Journal.is_settled self.new.scribe) }
-        ensures full { ¬ IsSpent self.old.scribe → 99000 ≤ longest self.old.seats.items (λ seat. entries_of seat.node seat.chain.links.items) → (result ≡ Err log_full) × (self.new ≡ self.old) }
-        ensures room { result ≡ Err log_full → (99000 ≤ longest self.old.seats.items (λ seat. entries_of seat.node seat.chain.links.items)) × (self.new ≡ self.old) }
         ensures why { IfErr result (λ r. IsOfJournal r ⊎ (r ≡ log_full)) }
         ensures fails { OnErr result (IsSpent self.new.scribe ⊎ (self.new ≡ self.old)) }
-        ensures goes { GoesOnSo K.Journal.contents K.is_honest K.may_hold K.holds Anywhere (λ gave. IfOk result (λ o. ComesOf client number o gave)) self.old self.new }
-        ensures spent { IsSpent self.old.scribe → IsErr result × (self.new ≡ self.old) }
     {
         let outcome = self.submit_unsettled(reading, client, number, text)?;
         self.settle()?;
@@ -205,13 +203,11 @@ where
         number: RequestNumber,
         text: &str,
     ) -> Result<Outcome, StoreRefusal>
-        ensures told { IfOk result (λ o. EndsWith K.Journal.contents self.new.scribe (Line.Printed client number (words_of o))) }
-        ensures full { ¬ IsSpent self.old.scribe → 99000 ≤ longest self.old.seats.items (λ seat. entries_of seat.node seat.chain.links.items) → (result ≡ Err log_full) × (self.new ≡ self.old) }
-        ensures room { result ≡ Err log_full → (99000 ≤ longest self.old.seats.items (λ seat. entries_of seat.node seat.chain.links.items)) × (self.new ≡ self.old) }
+        ensures hands_in { HandsIn K.Journal.contents client (λ o. number) (λ o. o) self.old self.new result }
+        ensures goes { GoesOnSo K.Journal.contents K.is_honest K.may_hold K.holds Anywhere
+            (λ gave. IfOk result (λ o. ComesOf client number o gave)) self.old self.new }
         ensures why { IfErr result (λ r. IsOfJournal r ⊎ (r ≡ log_full)) }
         ensures fails { OnErr result (IsSpent self.new.scribe ⊎ (self.new ≡ self.old)) }
-        ensures goes { GoesOnSo K.Journal.contents K.is_honest K.may_hold K.holds Anywhere (λ gave. IfOk result (λ o. ComesOf client number o gave)) self.old self.new }
-        ensures spent { IsSpent self.old.scribe → IsErr result × (self.new ≡ self.old) }
     {
         self.check()?;
         self.check_room()?;
@@ -271,13 +267,11 @@ where
         reading: i64,
         text: &str,
     ) -> Result<(RequestNumber, Outcome), StoreRefusal>
-        ensures told { IfOk result (λ r. EndsWith K.Journal.contents self.new.scribe (Line.Printed 65535 r.0 (words_of r.1))) }
+        ensures hands_in { HandsIn K.Journal.contents 65535 (λ r. r.0) (λ r. r.1) self.old self.new result }
+        ensures goes { GoesOnSo K.Journal.contents K.is_honest K.may_hold K.holds Anywhere
+            (λ gave. IfOk result (λ r. ComesOf 65535 r.0 r.1 gave)) self.old self.new }
         ensures settled { OnOk result (IsSettled K.Journal.is_settled self.new.scribe) }
-        ensures full { ¬ IsSpent self.old.scribe → 99000 ≤ longest self.old.seats.items (λ seat. entries_of seat.node seat.chain.links.items) → (result ≡ Err log_full) × (self.new ≡ self.old) }
-        ensures room { result ≡ Err log_full → (99000 ≤ longest self.old.seats.items (λ seat. entries_of seat.node seat.chain.links.items)) × (self.new ≡ self.old) }
         ensures why { IfErr result (λ r. IsOfJournal r ⊎ ((r ≡ log_full) ⊎ (r ≡ StoreRefusal.Refused Refusal.Gap))) }
-        ensures goes { GoesOnSo K.Journal.contents K.is_honest K.may_hold K.holds Anywhere (λ gave. IfOk result (λ r. ComesOf 65535 r.0 r.1 gave)) self.old self.new }
-        ensures spent { IsSpent self.old.scribe → IsErr result × (self.new ≡ self.old) }
     {
         let came = self.execute_unsettled(reading, text)?;
         self.settle()?;
@@ -292,12 +286,10 @@ where
         reading: i64,
         text: &str,
     ) -> Result<(RequestNumber, Outcome), StoreRefusal>
-        ensures told { IfOk result (λ r. EndsWith K.Journal.contents self.new.scribe (Line.Printed 65535 r.0 (words_of r.1))) }
-        ensures full { ¬ IsSpent self.old.scribe → 99000 ≤ longest self.old.seats.items (λ seat. entries_of seat.node seat.chain.links.items) → (result ≡ Err log_full) × (self.new ≡ self.old) }
-        ensures room { result ≡ Err log_full → (99000 ≤ longest self.old.seats.items (λ seat. entries_of seat.node seat.chain.links.items)) × (self.new ≡ self.old) }
+        ensures hands_in { HandsIn K.Journal.contents 65535 (λ r. r.0) (λ r. r.1) self.old self.new result }
+        ensures goes { GoesOnSo K.Journal.contents K.is_honest K.may_hold K.holds Anywhere
+            (λ gave. IfOk result (λ r. ComesOf 65535 r.0 r.1 gave)) self.old self.new }
         ensures why { IfErr result (λ r. IsOfJournal r ⊎ ((r ≡ log_full) ⊎ (r ≡ StoreRefusal.Refused Refusal.Gap))) }
-        ensures goes { GoesOnSo K.Journal.contents K.is_honest K.may_hold K.holds Anywhere (λ gave. IfOk result (λ r. ComesOf 65535 r.0 r.1 gave)) self.old self.new }
-        ensures spent { IsSpent self.old.scribe → IsErr result × (self.new ≡ self.old) }
     {
         self.check()?;
         self.check_room()?;

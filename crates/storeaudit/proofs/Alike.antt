@@ -1,12 +1,32 @@
 -- Databases that are compared, one by one.
-use Rattle.std.proofs.Common.{◌≡◌, ◌∙◌, ℕ, zero, suc, ◌+◌, ◌<◌, ◌≤◌, List, [], ◌∷◌, ◌++◌, length, length-append, get_or, Option, Some, ap, sym, subst, add-one, arith}
+use Rattle.std.proofs.Common.{◌≡◌, ◌∙◌, ℕ, zero, suc, ◌+◌, ◌<◌, ◌≤◌, List, [], ◌∷◌, ◌++◌, length, length-append, get_or, Option, Some, Result, Ok, Err, ap, sym, subst, add-one, arith}
+use Rattle.std.specs.Result.{OnOk}
 use Rattle.std.specs.Prelude.{slice_get}
 use Rattle.std.proofs.lemmas.Option.{slice_get-get_or}
 use Rattle.std.proofs.lemmas.List.{get_or_append_left}
 use Rattle.std.proofs.Math.Seq.{get_or-append_seam}
 use Rattle.keep.specs.Durable.{Durable}
+use Rattle.keep.specs.declared.hard_state.HardState.{HardState}
+use Rattle.journal.specs.declared.stored.Summary.{Summary}
+use Rattle.model.specs.declared.entry.Entry.{Entry}
 use Rattle.playback.specs.Scenes.{Scene}
+use Rattle.store.specs.HeldAt.{IsFound}
 use Rattle.storeaudit.specs.Found.{AreAlike, IsNext}
+
+-- what is found in a database, in short and with its log, is what the database held
+pub held_as : {I : Type 0} (holds : I → Durable → Type 0) (sound : I → Type 0) (was now : I) (found : Summary) (log : List Entry) → IsFound holds sound was now found log → sound now → holds was (record { hard = found.hard; log = log })
+held_as holds sound was now found log is sane =
+    let held = is sane in
+    let stored : Durable = record { hard = found.hard; log = log } in
+    let same : stored ≡ held.0 =
+    ap (λ (h : HardState). let d : Durable = record { hard = h; log = log } in d) (ap (λ (s : Summary). s.hard) held.2)
+    ∙ ap (λ (l : List Entry). let d : Durable = record { hard = held.0.hard; log = l } in d) held.3 in
+    subst (λ (d : Durable). holds was d) (sym same) held.1
+
+-- what holds of what is given holds of what comes of it
+pub on_ok : {A E : Type 0} (r : Result A E) {P Q : Type 0} → (P → Q) → OnOk r P → OnOk r Q
+on_ok (Ok a) f ok = f ok
+on_ok (Err e) f ok = ok
 
 -- the first elements of a longer list, and the last one
 front : {A : Type 0} (xs : List A) (y : A) (i : ℕ) → i < length xs → slice_get (xs ++ y ∷ []) i ≡ slice_get xs i

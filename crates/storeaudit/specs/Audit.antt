@@ -1,5 +1,5 @@
 -- What an audit says of the store in a folder.
-use Rattle.std.specs.Prelude.{◌≡◌, ◌⊎◌, ◌++◌, ◌∷◌, ⊤, [], List, ℕ, zero, suc, Some}
+use Rattle.std.specs.Prelude.{◌≡◌, ◌⊎◌, ◌++◌, ◌∷◌, ⊤, [], List, ℕ, zero, suc, false, map}
 use Rattle.believed.specs.Agreement.{Agree, decided}
 use Rattle.believed.specs.Explained.{IsDecidedInOrder, IsExplained, WereSubmitted}
 use Rattle.keep.specs.Durable.{Durable}
@@ -10,6 +10,7 @@ use Rattle.playback.specs.Scenes.{Scene, outset}
 use Rattle.sqlchecks.specs.Columns.{Tables}
 use Rattle.sqlread.specs.Meaning.{language_of}
 use Rattle.storefolder.specs.Hearing.{HasHeard}
+use Rattle.world.specs.Deeds.{Happened}
 use Rattle.storeaudit.specs.declared.auditing.Audited.{Audited}
 use Rattle.storeaudit.specs.declared.auditing.Verdict.{Verdict}
 use Rattle.storeaudit.specs.declared.auditing.Verdict.TheVariants.{Yes, Later, No}
@@ -30,7 +31,7 @@ IsOneRun language n events = Agree language n (new_world n) events × IsExplaine
 -- Where it says yes, the lines of all journals, as many as it says, let events happen, from the first one on: one run, which gives all that they
 -- tell. In it each member whose database is not named as missing has stored what was compared with that
 abbrev pub IsUpheld : Verdict → Type 0
-IsUpheld (Yes audited) = (events : List Event) × (end : Scene) × WasPlayed (outset audited.members (Some (record { tables = audited.schema; members = audited.members; events = [] }))) audited.sessions audited.members audited.missing.items end
-    × (end.history ≡ Some (record { tables = audited.schema; members = audited.members; events = events })) × IsOneRun (language_of audited.schema) audited.members events
+IsUpheld (Yes audited) = (events : List Event) × (end : Scene) × WasPlayed (outset audited.members (record { tables = audited.schema; members = audited.members; deeds = [] }) false) audited.sessions audited.members audited.missing.items end
+    × (end.history ≡ record { tables = audited.schema; members = audited.members; deeds = map Happened events }) × IsOneRun (language_of audited.schema) audited.members events
 IsUpheld (Later found) = ⊤
 IsUpheld (No fault) = ⊤

@@ -1,17 +1,10 @@
 -- What is found in databases, and what it is compared with.
 use Rattle.std.specs.Prelude.{◌≡◌, ◌++◌, ◌∷◌, [], List, ℕ, zero, suc, Option, Some, None, slice_get}
 use Rattle.keep.specs.Durable.{Durable}
-use Rattle.journal.specs.Digests.{summary_of}
-use Rattle.journal.specs.declared.stored.Summary.{Summary}
-use Rattle.model.specs.declared.entry.Entry.{Entry}
 use Rattle.playback.specs.Playing.{IsLeft}
 use Rattle.playback.specs.Scenes.{Scene}
 
 module _ {I : Type 0} (holds : I → Durable → Type 0) (sound : I → Type 0) where
-  -- it is what the database held, in short and with its log, unless something wrong was taken as true before the database was as it is now
-  abbrev pub IsFound : (was now : I) → Summary → List Entry → Type 0
-  IsFound was now found log = sound now → (d : Durable) × holds was d × (found ≡ summary_of d) × (log ≡ d.log)
-
   -- so far as nothing wrong was taken as true, the database held just what its member has stored, as the play goes on with it
   abbrev pub IsAlike : I → Scene → ℕ → Scene → Type 0
   IsAlike database s m t = (d : Durable) × (now : I) × (sound now → holds database d) × IsLeft s m d t

@@ -1,28 +1,22 @@
 //! The audit of a folder: its journals are played again, each database has to be what they give, and what they spell has to be one run.
 ghost use Rattle.std.specs.Prelude.{◌≡◌, IfOk, OnOk};
-ghost use Rattle.journal.specs.Digests.{summary_of};
-ghost use Rattle.node.specs.Member.{member_of};
-ghost use Rattle.node.specs.View.{durable_of};
 ghost use Rattle.playback.specs.Scenes.{scene_of};
 ghost use Rattle.sqlite.specs.Held.{state};
-ghost use Rattle.store.specs.HeldAt.{entries_in};
 ghost use Rattle.storeaudit.specs.Audit.{AreLeft, IsUpheld, WasPlayed};
-ghost use Rattle.storeaudit.specs.Found.{AreAlike, IsAlike, IsFound};
-ghost use Rattle.storetables.specs.Stored.{IsSound, Offers};
+ghost use Rattle.storeaudit.specs.Found.{AreAlike, IsAlike};
+ghost use Rattle.durable.specs.Stored.{IsSound, Offers};
 
 use crate::later::{Later, audit_later};
 use durable::SqlKeeper;
 use fault::Refusal;
-use journal::Summary;
 use model::member::Member;
-use node::Node;
 use playback::Play;
 use progressline::Progress;
 use schema::Schema;
 use sqlite::{Alter, Connection};
 use std::alloc::Global;
 use store::announcing::Judging;
-use store::held::HeldLog;
+use store::found::found_in;
 use store::known::KnownLog;
 use store::{Past, StoreRefusal};
 use storefolder::{Form, Journals, check_synced, enter, find_journals, open_databases, tell_all};
@@ -52,73 +46,6 @@ pub enum Verdict {
     No(StoreRefusal),
 }
 
-/// What a member's database holds.
-#[derive(Drop)]
-pub struct Found<I: Drop> {
-    /// In short.
-    pub summary: Summary,
-    /// Its log.
-    pub log: HeldLog,
-    /// The database, with what it holds.
-    pub image: I,
-}
-
-// What a node has stored: in short, and its log.
-fn held_by<K: Judging>(
-    alloc: Global,
-    node: &mut Node<K>,
-    known: &mut KnownLog,
-) -> Result<(Summary, HeldLog), StoreRefusal>
-where
-    K::Image: Drop,
-    ensures is { IfOk result (λ held. K.is_honest node.new.keeper → (held.0 ≡ summary_of (durable_of (member_of node.old))) × (entries_in held.1 ≡ (durable_of (member_of node.old)).log)) }
-    ensures honest { K.is_honest node.new.keeper → K.is_honest node.old.keeper }
-{
-    let log = HeldLog::new(alloc, node.entries()?, known)?;
-    Ok((log.summary(node.hard_state()), log))
-}
-
-/// What a member's database holds. 49 where it holds no state of a member; 40 and 43 where it can't be read.
-pub fn found_in<K: Judging>(
-    alloc: Global,
-    database: K::Image,
-    form: &Form,
-    member: Member,
-    known: &mut KnownLog,
-) -> Result<Found<K::Image>, StoreRefusal>
-where
-    K::Image: Drop,
-    ensures { IfOk result (λ found. IsFound K.holds K.is_sound database found.image found.summary (entries_in found.log)) }
-{
-    if form.members > 7 || member < 1 || member > form.members {
-        return Err(StoreRefusal::Refused(Refusal::NodeDown));
-    }
-    let schema = form.schema.clone()?;
-    let mut node = match Node::<K>::start(alloc, database, schema, form.members, member) {
-        Ok(node) => node,
-        Err((error, _)) => return Err(refusal_of(Refusal::from(error), member)),
-    };
-    let held = held_by(alloc, &mut node, known);
-    let image = node.stop();
-    let (summary, log) = held?;
-    Ok(Found {
-        summary,
-        log,
-        image,
-    })
-}
-
-// A database that holds no state of a member is one that was altered.
-fn refusal_of(refusal: Refusal, member: Member) -> StoreRefusal {
-    match refusal {
-        Refusal::BadStore => StoreRefusal::Altered {
-            member,
-            entry: None,
-        },
-        refusal => StoreRefusal::Refused(refusal),
-    }
-}
-
 // Compares a member's database, which is not missing, with what the journals give.
 fn compare<K: Judging>(
     alloc: Global,
@@ -132,7 +59,7 @@ where
     K::Image: Drop,
     ensures { OnOk result (IsAlike K.holds K.is_sound database (scene_of play.old) member (scene_of play.new)) }
 {
-    let found = found_in::<K>(alloc, database, form, member, known)?;
+    let found = found_in::<K>(alloc, database, &form.schema, form.members, member, known)?;
     play.check_found(member, &found.summary, found.log.entries())
 }
 

@@ -1,5 +1,4 @@
 //! A folder whose first journals are away.
-use crate::auditing::found_in;
 use durable::SqlKeeper;
 use journal::Summary;
 use model::member::Member;
@@ -8,6 +7,7 @@ use progressline::Progress;
 use sqlite::{Alter, Connection};
 use std::alloc::Global;
 use store::announcing::Judging;
+use store::found::found_in;
 use store::held::HeldLog;
 use store::known::KnownLog;
 use store::{Past, StoreRefusal};
@@ -52,7 +52,14 @@ where
         member = member.saturating_add(1);
         match database {
             Some(database) => {
-                let found = found_in::<K>(alloc, database, form, member, &mut known)?;
+                let found = found_in::<K>(
+                    alloc,
+                    database,
+                    &form.schema,
+                    form.members,
+                    member,
+                    &mut known,
+                )?;
                 held.found.push(Some(found.summary))?;
                 held.logs.push(Some(found.log))?;
             }

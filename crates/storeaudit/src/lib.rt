@@ -5,6 +5,6 @@ mod auditing;
 mod later;
 mod replayed;
 
-pub use auditing::{Audited, Found, Verdict, audit, found_in};
+pub use auditing::{Audited, Verdict, audit};
 pub use later::Later;
 pub use replayed::{flights, replay};

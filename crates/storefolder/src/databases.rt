@@ -1,13 +1,13 @@
 //! The databases of a store's members.
 use crate::faults::file_refusal;
 use crate::place::{exists, put_file};
+use durable::first_page;
 use fault::Refusal;
 use model::member::Member;
 use sqlite::{Error, ErrorCode};
 use std::alloc::{AllocError, Global};
 use store::past::Tale;
 use store::{Past, StoreRefusal};
-use storetables::first_page::first_page;
 
 /// A database in a file, each commit of which is on the disk, or outlasts a kill of the process alone.
 pub type Database = unsynced::Database;

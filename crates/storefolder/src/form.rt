@@ -128,11 +128,7 @@ pub fn read_form(alloc: Global, text: String) -> Result<Form, StoreRefusal>
 }
 
 /// The text of a form: its one spelling. The error is want of memory.
-pub(crate) fn text_of_form(
-    alloc: Global,
-    members: Member,
-    schema: &str,
-) -> Result<String, AllocError>
+pub fn text_of_form(alloc: Global, members: Member, schema: &str) -> Result<String, AllocError>
     ensures { IfOk result (λ text. string_bytes text ≡ form_text members schema.now) }
 {
     let length = schema.len();

@@ -30,7 +30,7 @@ pub(crate) fn journal_path(alloc: Global, dir: &str, journal: u64) -> Result<Str
 }
 
 /// Whether there is such a file: 40 where that can't be told.
-pub(crate) fn exists(rt: &HostRuntime, path: &str) -> Result<bool, StoreRefusal> {
+pub fn exists(rt: &HostRuntime, path: &str) -> Result<bool, StoreRefusal> {
     match fs::exists(rt, path) {
         Ok(is) => Ok(is),
         Err(error) => Err(file_refusal(&error)),

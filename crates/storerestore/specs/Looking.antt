@@ -4,12 +4,11 @@ use Rattle.std.specs.List.{All, count_by}
 use Rattle.keep.specs.Durable.{Durable, blank}
 use Rattle.journal.specs.Digests.{summary_of}
 use Rattle.journal.specs.declared.stored.Summary.{Summary}
-use Rattle.store.specs.HeldAt.{entries_in}
+use Rattle.store.specs.HeldAt.{entries_in, IsFound}
 use Rattle.store.specs.Tales.{IsFit}
 use Rattle.store.specs.declared.held.HeldLog.{HeldLog}
 use Rattle.store.specs.declared.tale.Tale.{Tale}
 use Rattle.store.specs.declared.refusal.StoreRefusal.{StoreRefusal}
-use Rattle.storeaudit.specs.Found.{IsFound}
 use Rattle.storerestore.specs.declared.looking.Looked.{Looked}
 
 -- it can't be read, or may hold anything

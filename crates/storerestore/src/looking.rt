@@ -9,10 +9,10 @@ use sqlite::{Alter, Connection};
 use std::alloc::Global;
 use store::StoreRefusal;
 use store::announcing::Judging;
+use store::found::found_in;
 use store::held::HeldLog;
 use store::known::KnownLog;
 use store::past::Tale;
-use storeaudit::found_in;
 use storefolder::Form;
 
 /// What is found of a member's database.
@@ -57,7 +57,7 @@ where
     K::Image: Drop,
     ensures { IfOk result (λ looked. IsJudged K.holds K.is_sound database tale.now looked) }
 {
-    match found_in::<K>(alloc, database, form, member, known) {
+    match found_in::<K>(alloc, database, &form.schema, form.members, member, known) {
         Ok(found) => Ok(Looked {
             fits: tale.fits(&found.summary),
             log: Some(found.log),

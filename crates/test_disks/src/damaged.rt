@@ -11,7 +11,7 @@ use std::process::Abort;
 use std::test::Fail;
 
 // What the opens of damaged files found.
-#[derive(Clone, Copy, Debug)]
+#[derive(Clone, Copy, Debug, Default)]
 struct Counts {
     /// What was stored last.
     last: u64,
@@ -26,15 +26,6 @@ struct Counts {
     /// Anything else.
     wrong: u64,
 }
-
-const NONE: Counts = Counts {
-    last: 0,
-    earlier: 0,
-    other: 0,
-    bad: 0,
-    fault: 0,
-    wrong: 0,
-};
 
 fn one_more(count: u64) -> u64 {
     count.saturating_add(1)
@@ -61,17 +52,26 @@ fn closed(database: Database) -> (bool, Pair) {
     }
 }
 
-// The files of a member that took all steps, with an empty log.
-fn saved(rt: &impl Abort, alloc: Global, schema: &Schema) -> Result<Pair, AllocError> {
+// The database file of a member that took all steps, with an empty log.
+fn saved(alloc: Global, schema: &Schema) -> Result<Vec<u8>, Fail> {
     let files = files_with(alloc, &[], &[])?;
     let (life, files) = live_on(alloc, files, schema, true);
-    assert!(rt; matches!(life.ended, Some(Ended::Whole)), "{life:?}");
+    let Some(Ended::Whole) = life.ended else {
+        return Err(Fail::from("the member did not take all steps"));
+    };
+    copied(alloc, files)
+}
+
+// The database file once its log is copied into it.
+fn copied(alloc: Global, files: Pair) -> Result<Vec<u8>, Fail> {
     let Ok(database) = open(alloc, files) else {
-        panic!(rt; "the files do not open");
+        return Err(Fail::from("the files do not open"));
     };
     let (is_copied, files) = closed(database);
-    assert!(rt; is_copied);
-    Ok(files)
+    if !is_copied {
+        return Err(Fail::from("the log is not copied"));
+    }
+    Ok(files.db.inner().bytes().to_vec(alloc)?)
 }
 
 // What an open of a database file finds that has these bytes and no log.
@@ -83,7 +83,7 @@ fn find_in(alloc: Global, bytes: &[u8], schema: &Schema) -> Result<Found, AllocE
 
 // The file is cut after each of its bytes but the last.
 fn cut_each(alloc: Global, bytes: &[u8], schema: &Schema) -> Result<Counts, AllocError> {
-    let mut counts = NONE;
+    let mut counts = Counts::default();
     for length in 0..bytes.len() {
         let head = bytes.get(..length).unwrap_or(bytes);
         counts.count(find_in(alloc, head, schema)?);
@@ -116,53 +116,35 @@ fn change_each(
     bits: u8,
     schema: &Schema,
 ) -> Result<Counts, AllocError> {
-    let mut counts = NONE;
+    let mut counts = Counts::default();
     for at in 0..bytes.len() {
         counts.count(change(alloc, bytes, at, bits, schema)?);
     }
     Ok(counts)
 }
 
-// A file that is cut never shows a state that was never stored.
-fn try_cuts(
-    rt: &(impl Print + Abort),
-    alloc: Global,
-    bytes: &[u8],
-    schema: &Schema,
-) -> Result<(), Fail> {
-    let counts = cut_each(alloc, bytes, schema)?;
-    println!(rt; "{} bytes, cut: {counts:?}", bytes.len())?;
-    assert!(rt; counts.wrong == 0 && counts.other == 0);
-    Ok(())
-}
-
-// A file with a changed byte shows no state but one that a member may have.
-fn try_changes(
-    rt: &(impl Print + Abort),
-    alloc: Global,
-    bytes: &mut [u8],
-    schema: &Schema,
-    bits: u8,
-) -> Result<(), Fail> {
-    let counts = change_each(alloc, bytes, bits, schema)?;
-    println!(rt; "{} bytes, bits {bits}: {counts:?}", bytes.len())?;
+// Prints what opens found. None found what no member may have.
+fn tell(rt: &(impl Print + Abort), damage: &str, counts: Counts) -> Result<(), Fail> {
+    println!(rt; "{damage}: {counts:?}")?;
     assert!(rt; counts.wrong == 0);
     Ok(())
 }
 
-// The file is damaged in each of these ways.
-fn try_all(rt: &(impl Print + Abort), alloc: Global, schema: &Schema) -> Result<(), Fail> {
-    let files = saved(rt, alloc, schema)?;
-    let mut bytes = files.db.inner().bytes().to_vec(alloc)?;
-    try_cuts(rt, alloc, &bytes, schema)?;
-    for bits in [1, 128] {
-        try_changes(rt, alloc, &mut bytes, schema, bits)?;
-    }
-    Ok(())
-}
-
+/// A file that is cut never shows a state that was never stored, and one with a changed byte no state but one that a member may
+/// have.
 #[test]
 fn damaged_files(rt: HostRuntime) -> Result<(), Fail> {
     let schema = read_schema(rt.alloc(), SCHEMA)?;
-    try_all(&rt, rt.alloc(), &schema)
+    let mut bytes = saved(rt.alloc(), &schema)?;
+    let counts = cut_each(rt.alloc(), &bytes, &schema)?;
+    tell(&rt, "cut", counts)?;
+    assert!(rt; counts.other == 0);
+    for (damage, bits) in [("lowest bits", 1), ("highest bits", 128)] {
+        tell(
+            &rt,
+            damage,
+            change_each(rt.alloc(), &mut bytes, bits, &schema)?,
+        )?;
+    }
+    Ok(())
 }

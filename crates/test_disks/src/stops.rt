@@ -9,11 +9,10 @@ use schema::Schema;
 use schemaread::schemas::read_schema;
 use sqlite::Files;
 use std::alloc::{AllocError, Global};
-use std::process::Abort;
 use std::test::Fail;
 
 // What came of the lives of which a file stopped.
-#[derive(Clone, Copy, Debug)]
+#[derive(Clone, Copy, Debug, Default)]
 struct Counts {
     /// How many calls were stopped, one in each life.
     calls: u64,
@@ -23,6 +22,8 @@ struct Counts {
     opens: u64,
     /// How many of these opens found the step that was stopped done.
     after: u64,
+    /// The last life that left what it must not, and the two after it.
+    wrong: Option<[Life; 3]>,
 }
 
 // New files, of which one stops after so many calls.
@@ -53,39 +54,30 @@ fn is_after(life: Life, found: Found) -> Option<bool> {
     }
 }
 
-// Opens files that a life left: they hold what was stored before its last step or after it, and the member goes on from
-// there to the last one. Whether it was after.
-fn open_again(rt: &impl Abort, alloc: Global, schema: &Schema, life: Life, files: Pair) -> bool {
-    let (next, files) = live_on(alloc, files, schema, true);
-    let (last, _) = live_on(alloc, files, schema, false);
-    let is_whole = matches!(next.ended, Some(Ended::Whole))
-        && matches!(last.found, Found::Steps(STEPS));
-    match is_after(life, next.found) {
-        Some(is_after) if is_whole => is_after,
-        _ => panic!(rt; "{life:?} leaves {next:?} and then {last:?}"),
-    }
-}
-
 impl Counts {
-    // Opens what is left of the files where the disk has so many quarters of what was not synced.
-    fn open_part(
-        &mut self,
-        rt: &impl Abort,
-        alloc: Global,
-        schema: &Schema,
-        life: Life,
-        files: Pair,
-    ) {
+    // Opens files that a life left: they hold what was stored before its last step or after it, and the member goes on from
+    // there to the last one.
+    fn open_again(&mut self, alloc: Global, schema: &Schema, life: Life, files: Pair) {
+        let (next, files) = live_on(alloc, files, schema, true);
+        let (last, _) = live_on(alloc, files, schema, false);
+        self.count(life, next, last);
+    }
+
+    // Counts what an open of files found that a life left.
+    fn count(&mut self, life: Life, next: Life, last: Life) {
         self.opens = self.opens.saturating_add(1);
-        if open_again(rt, alloc, schema, life, files) {
-            self.after = self.after.saturating_add(1);
+        let is_whole = matches!(next.ended, Some(Ended::Whole))
+            && matches!(last.found, Found::Steps(STEPS));
+        match is_after(life, next.found) {
+            Some(true) if is_whole => self.after = self.after.saturating_add(1),
+            Some(false) if is_whole => {}
+            _ => self.wrong = Some([life, next, last]),
         }
     }
 
     // Opens what is left of the files, with each part of the log that may be on the disk.
     fn open_logs(
         &mut self,
-        rt: &impl Abort,
         alloc: Global,
         schema: &Schema,
         life: Life,
@@ -95,7 +87,7 @@ impl Counts {
         for log in 0..QUARTERS + 1 {
             if left.differs(log, db) {
                 let files = left.files(alloc, log, db)?;
-                self.open_part(rt, alloc, schema, life, files);
+                self.open_again(alloc, schema, life, files);
             }
         }
         Ok(())
@@ -104,14 +96,13 @@ impl Counts {
     // Opens what is left of the files, with each part of both that may be on the disk.
     fn open_all(
         &mut self,
-        rt: &impl Abort,
         alloc: Global,
         schema: &Schema,
         life: Life,
         left: &Left,
     ) -> Result<(), AllocError> {
         for db in 0..QUARTERS + 1 {
-            self.open_logs(rt, alloc, schema, life, left, db)?;
+            self.open_logs(alloc, schema, life, left, db)?;
         }
         Ok(())
     }
@@ -119,7 +110,6 @@ impl Counts {
     // A life of which a file stops after so many calls. Whether it was stopped, or would be at the next call.
     fn stop_after(
         &mut self,
-        rt: &impl Abort,
         alloc: Global,
         schema: &Schema,
         is_log: bool,
@@ -129,7 +119,7 @@ impl Counts {
         let (life, mut files) = live_on(alloc, files, schema, true);
         let stopped = has_stopped(&mut files.log) || has_stopped(&mut files.db);
         let left = Left::of(alloc, &mut files)?;
-        self.open_all(rt, alloc, schema, life, &left)?;
+        self.open_all(alloc, schema, life, &left)?;
         if !matches!(life.ended, Some(Ended::Whole)) {
             self.downs = self.downs.saturating_add(1);
         }
@@ -137,47 +127,26 @@ impl Counts {
     }
 }
 
-// Stops a file at each of its calls.
-fn stop_each(
-    rt: &impl Abort,
-    alloc: Global,
-    schema: &Schema,
-    is_log: bool,
-) -> Result<Counts, AllocError> {
-    let mut counts = Counts {
-        calls: 0,
-        downs: 0,
-        opens: 0,
-        after: 0,
-    };
+// Stops a file at each of its calls, ten thousand at most.
+fn stop_each(alloc: Global, schema: &Schema, is_log: bool) -> Result<Counts, AllocError> {
+    let mut counts = Counts::default();
     for calls in 0..10_000 {
-        if !counts.stop_after(rt, alloc, schema, is_log, calls)? {
-            counts.calls = calls.saturating_sub(1);
-            return Ok(counts);
+        if !counts.stop_after(alloc, schema, is_log, calls)? {
+            break;
         }
+        counts.calls = calls;
     }
-    panic!(rt; "a file has too many calls")
+    Ok(counts)
 }
 
-// Stops this file at each of its calls, and tells how often: each time the member goes down with 40 or does not start.
-fn try_file(
-    rt: &(impl Print + Abort),
-    alloc: Global,
-    schema: &Schema,
-    is_log: bool,
-) -> Result<(), Fail> {
-    let name = if is_log { "log" } else { "database" };
-    let counts = stop_each(rt, alloc, schema, is_log)?;
-    println!(rt; "{name}: {counts:?}")?;
-    assert!(rt; counts.calls > 0 && counts.downs == counts.calls);
-    Ok(())
-}
-
+/// Each time the member goes down with 40 or does not start.
 #[test]
 fn file_calls_stop(rt: HostRuntime) -> Result<(), Fail> {
     let schema = read_schema(rt.alloc(), SCHEMA)?;
-    for is_log in [true, false] {
-        try_file(&rt, rt.alloc(), &schema, is_log)?;
+    for (name, is_log) in [("log", true), ("database", false)] {
+        let counts = stop_each(rt.alloc(), &schema, is_log)?;
+        println!(rt; "{name}: {counts:?}")?;
+        assert!(rt; counts.calls > 0 && counts.downs == counts.calls && counts.wrong.is_none());
     }
     Ok(())
 }

@@ -4,7 +4,7 @@ use Rattle.std.specs.Prelude.{string_bytes, slice_get, Some}
 use Rattle.std.proofs.lemmas.List.{take_more}
 use Rattle.std.proofs.lemmas.List.Sums.{fold_more}
 use Rattle.std.proofs.lemmas.Option.{slice_get-get_or}
-use Rattle.csvrows.specs.declared.requests.Request.{Request}
+use Rattle.transfer.specs.declared.requests.Request.{Request}
 use Rattle.store.specs.declared.outcome.Outcome.{Outcome}
 use Rattle.store.specs.declared.outcome.Outcome.TheVariants.{Accepted}
 use Rattle.transfer.specs.declared.import.Came.{Came}

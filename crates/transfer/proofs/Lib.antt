@@ -1,1 +1,4 @@
 mod Imports
+pub mod Found
+pub mod Places
+pub mod Printable

@@ -1,6 +1,6 @@
 -- Requests that are handed in one after the other, each once the one before it is accepted.
 use Rattle.std.specs.Prelude.{◌≡◌, ◌≢◌, ◌+◌, ◌≤◌, ℕ, min, true, false, List, [], ◌∷◌, fold, length, take, slice_get, Some, string_bytes}
-use Rattle.csvrows.specs.declared.requests.Request.{Request}
+use Rattle.transfer.specs.declared.requests.Request.{Request}
 use Rattle.store.specs.declared.outcome.Outcome.{Outcome}
 use Rattle.store.specs.declared.outcome.Outcome.TheVariants.{Accepted}
 use Rattle.transfer.specs.declared.import.Came.{Came}

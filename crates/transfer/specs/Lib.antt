@@ -1,3 +1,10 @@
 pub mod Imports
 pub mod Questions
 pub mod Told
+pub mod Faults
+pub mod Fields
+pub mod Header
+pub mod Lines
+pub mod Requests
+pub mod Rows
+pub mod Shapes

@@ -1,8 +1,8 @@
 //! What an import or an export is asked for, and what it does with a store that is open.
 use crate::export::{export_rows, instant_of};
 use crate::import::{import_rows, read_rows};
+use crate::requests::Request;
 use crate::stop::Fault;
-use csvrows::Request;
 use period::Instant;
 use progressline::Progress;
 use schema::Schema;

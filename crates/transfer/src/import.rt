@@ -5,10 +5,11 @@ ghost use Rattle.transfer.specs.Imports.{IsCounted, IsDone, IsFar, IsImported, I
 
 use crate::asked::Import;
 use crate::printing::print;
+use crate::requests::{Request, read_requests};
 use crate::stop::Fault;
 use crate::taking::Takes;
 use crate::told::{count_text, fault_text, outcome_text};
-use csvrows::{Request, Stop, read_requests};
+use crate::unread::Stop;
 use fault::Refusal;
 use progressline::Progress;
 use schema::Schema;

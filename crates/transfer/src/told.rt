@@ -3,7 +3,8 @@ ghost use Rattle.std.specs.Prelude.{◌≡◌, IfOk, string_bytes};
 ghost use Rattle.transfer.specs.Told.{advice_text, command_text, count_text, lines_text, outcome_text, place_text, requests_text, stored_text, told_text};
 
 use crate::asked::Import;
-use csvrows::{Fault, Request};
+use crate::requests::Request;
+use crate::unread::Fault;
 use fault::Refusal;
 use std::alloc::{AllocError, Global};
 use store::Outcome;

@@ -1,5 +1,5 @@
 -- Items in which stamps rise, one after another.
-use Rattle.std.proofs.Common.{◌≡◌, ◌∙◌, ℕ, zero, suc, ◌+◌, ◌≤◌, Bool, true, false, MatchBool, Option, Some, List, [], ◌∷◌, ◌++◌, length, take, drop, slice_get, refl, sym, ap, subst, arith, length-append}
+use Rattle.std.proofs.Common.{◌≡◌, ◌∙◌, ℕ, zero, suc, ◌+◌, ◌≤◌, Bool, true, false, MatchBool, Option, Some, List, [], ◌∷◌, ◌++◌, length, take, drop, slice_get, sym, ap, subst, arith, length-append}
 use Rattle.std.proofs.lemmas.List.{take-append-drop, take-append-le}
 use Rattle.boxcar.specs.Table.{Shelves, Where}
 use Rattle.history.specs.declared.item.Item.{Item}

@@ -1,4 +1,4 @@
-pub mod Counting
+pub mod Turns
 pub mod Placing
 pub mod Taking
 pub mod Parts

@@ -1,10 +1,10 @@
 -- What the laws of `refused` rest on besides the clauses that they speak of.
-use Rattle.std.proofs.Common.{◌≡◌, ◌⊎◌, ℕ, ◌≤◌, max, Option, Some, None, Result, Ok, Err, List, take, drop, ◌++◌, refl, sym, ap, ◌∙◌, subst, arith, inl, inr, option_map}
+use Rattle.std.proofs.Common.{◌≡◌, ℕ, ◌≤◌, Option, Some, None, Result, Ok, Err, List, take, drop, ◌++◌, sym, ap, ◌∙◌, subst, arith, inl, inr}
 use Rattle.std.specs.Prelude.{IfErr, IfOk, MatchResult}
 use Rattle.std.specs.Prelude.{MatchOption}
 use Rattle.std.proofs.lemmas.List.{take-append-drop}
 use Rattle.fault.specs.declared.refusal.Refusal.{Refusal}
-use Rattle.fault.specs.declared.refusal.Refusal.TheVariants.{NotClosed, NoMemory}
+use Rattle.fault.specs.declared.refusal.Refusal.TheVariants.{NotClosed}
 use Rattle.model.specs.Answers as model
 use Rattle.model.specs.Answers.{closed_query}
 use Rattle.model.specs.Logs.{closed}
@@ -12,7 +12,6 @@ use Rattle.model.specs.Stamps.{greater}
 use Rattle.model.specs.Transactions.{Language}
 use Rattle.sqlread.specs.Meaning.{select_of}
 use Rattle.sqlread.specs.Shapes.{QueryShape}
-use Rattle.answer.specs.declared.Answer.{Answer}
 use Rattle.history.specs.declared.item.Item.{Item}
 use Rattle.history.specs.Items.{Rises, closed_in, entries_in, sealed_in}
 use Rattle.view.specs.declared.view.Marked.{Marked}

@@ -1,15 +1,9 @@
 -- What stands in the list that a life shares with its views.
 use Rattle.std.specs.Prelude.{◌≡◌, ℕ, ◌+◌, ◌≤◌, List, ◌∷◌, [], ◌++◌, Some, take, length, slice_get}
-use Rattle.atomic_table.specs.declared.shared.Seat.{Seat}
 use Rattle.boxcar.specs.Table.{Shelves, Where, Shows}
 use Rattle.history.specs.declared.front.Front.{Front}
 use Rattle.history.specs.declared.item.Item.{Item}
-use Rattle.view.specs.declared.published.Published.{Published}
 use Rattle.view.specs.declared.published.Shown.{Shown}
-
--- the seat is the one that sets the count
-abbrev pub IsCounter : Published → Seat (Unit {0}) ℕ → Type 0
-IsCounter p seat = (seat.table_id ≡ p.count.shared.table_id) × (seat.id ≡ 0)
 
 -- each of the first items stands in the list, at its index
 abbrev pub ArePlaced : Shelves → List Item → List (Where Shown) → Type 0

@@ -1,12 +1,12 @@
-//! What a life shares with its views.
-ghost use Rattle.std.specs.Prelude.{◌≡◌, IfOk};
-ghost use Rattle.view.specs.Rules.{named_book};
+//! What a life shares with its views: the list of its items, and the front of what is published, which the writer shows to readers.
+ghost use Rattle.std.specs.Prelude.{◌≡◌};
 
-use crate::rule::{Counted, Listed, Named, Sets};
-use atomic_table::Seat;
+use crate::rule::{Grows, Listed};
 use boxcar::table::{Placed, Table};
-use boxcar::tag::Tag;
 use history::{Front, Item};
+use left_right::Absorb;
+use left_right::reader::Reader;
+use left_right::writer::Writer;
 use std::alloc::{AllocError, Global};
 
 /// An item, with the token that the history begins with the list which it ends.
@@ -16,55 +16,35 @@ pub struct Shown {
     pub front: Front,
 }
 
+/// The items of a life, each of which keeps its place for good.
+pub type Items = Table<Shown, Listed, Global>;
+
 /// What shows that an item stands in the list.
 pub type Place = Placed<Shown, Listed, Global>;
 
-/// The right to set the count.
-pub type Counter = Seat<(), u64>;
-
-// What the count is once the life has ended.
-const ENDED: u64 = u64::MAX;
-
-/// The items of a life, and how many of them are published. An item keeps its place for good, so that nobody who reads or
-/// publishes waits for another.
+/// The list that is published, by the token for it. It is all that readers copy, so that a publisher waits for next to nothing.
 #[derive(Drop)]
 pub struct Published {
-    pub list: Table<Shown, Listed, Global>,
-    pub count: atomic_table::Table<(), u64, (), Counted, Global>,
-    ghost one_word: { count.shared.table_id.words ≡ 1 },
+    pub front: Front,
 }
 
-impl Published {
-    ghost use Rattle.view.specs.Lists.{IsCounter};
+/// The publisher's end.
+pub type Desk = Writer<Published, Front, Option<Front>, Grows>;
 
-    /// No items, of the history that the token is of. The error is want of memory.
-    pub fn new(alloc: Global, front: &Front) -> Result<(Published, Counter), AllocError>
-        ensures book { IfOk result (λ p. named_book p.0.list.tag ≡ front.now.seen.book) }
-        ensures counter { IfOk result (λ p. IsCounter p.0 p.1 × (p.1.me.0 ≡ 0)) }
-    {
-        let list = Table::new(alloc, Tag::of::<Front, Named>(front))?;
-        let (count, counter) = atomic_table::Table::of_words(alloc, &[0], &())?;
-        Ok((Published { list, count }, counter))
-    }
+/// A view's end.
+pub type Glass = Reader<Published, Option<Front>, Grows>;
 
-    /// How many items are published; none once the life has ended.
-    pub fn counted(&self) -> Option<u64> {
-        let count = self.count.shared.peek(0);
-        if count == ENDED { None } else { Some(count) }
-    }
+impl Absorb<Front> for Published {
+    type State = Front;
 
-    /// Publishes the first items, so many of them.
-    pub fn set(&self, counter: &mut Counter, count: u64)
-        requires { IsCounter self.now counter.old }
-        ensures { IsCounter self.now counter.new × (counter.new.me.0 ≡ count) }
-    {
-        self.count.shared.store::<Sets>(counter, 0, count);
-    }
+    ghost state = { λ p. p.front };
 
-    /// Tells that the life has ended.
-    pub fn end(&self, mut counter: Counter)
-        requires { IsCounter self.now counter }
-    {
-        self.set(&mut counter, ENDED);
+    ghost applied = { λ _ front. front };
+
+    ghost never_fails = { Unit {0} };
+
+    fn absorb_first(&mut self, front: &Front, _other: &Published) -> Result<(), AllocError> {
+        self.front = front.again();
+        Ok(())
     }
 }

@@ -1,16 +1,21 @@
 //! The end at which a life publishes.
-ghost use Rattle.std.specs.Prelude.{◌≡◌, ◌⊎◌, ◌≤◌, ◌<◌, ◌+◌, [], ◌∷◌, ◌++◌, take, slice_get, vec_len, Some, Err, IfOk, IfErr, OnOk, MatchResult};
+ghost use Rattle.std.specs.Prelude.{◌≡◌, ◌⊎◌, ◌≤◌, ◌<◌, ◌+◌, [], ◌∷◌, ◌++◌, take, drop, slice_get, vec_len, Some, Err, IfOk, IfErr, OnOk, MatchResult};
 ghost use Rattle.std.specs.Arc.{arc_value};
+ghost use Rattle.left_right.specs.Sides.{view};
 ghost use Rattle.fault.specs.declared.refusal.Refusal.TheVariants.{NoMemory, NoView};
 ghost use Rattle.history.specs.Items.{Follows, Rises, closed_in};
 ghost use Rattle.history.specs.Once.{rises_prop};
-ghost use Rattle.view.specs.Lists.{ArePlaced, IsCounter, IsGrown};
+ghost use Rattle.view.specs.Lists.{ArePlaced, IsGrown};
 ghost use Rattle.view.specs.Rules.{named_book};
 
-use crate::published::{Counter, Place, Published, Shown};
+use crate::published::{Desk, Items, Place, Published, Shown};
 use crate::replay::Replay;
+use crate::rule::{Named, Notes, Sees};
 use crate::told::{Name, Notice};
 use crate::view::View;
+use boxcar::table::Table;
+use boxcar::tag::Tag;
+use core::mem::{ManuallyDrop, replace_with};
 use fault::Refusal;
 use history::{Front, History, Item};
 use model::stamp::Stamp;
@@ -22,14 +27,14 @@ use std::sync::{Arc, Wait};
 pub const VIEWS: usize = 8;
 
 /// What a life publishes: a list of items, of which the first are published and the others pending. No entry in it is
-/// stamped at or below what is closed by the items before it. End it by `stop`; views of one that is dropped still answer.
-#[derive(Drop)]
+/// stamped at or below what is closed by the items before it. End it by `stop`; views of one that is dropped still answer,
+/// and it keeps the memory of two tokens, since only a call that may wait for views could give that back.
 pub struct Publisher {
     alloc: Global,
     name: Name,
     schema: Schema,
-    published: Arc<Published>,
-    counter: Counter,
+    list: Arc<Items>,
+    writer: Desk,
     /// All that was appended.
     items: Vec<Item>,
     /// The closed time of that.
@@ -39,30 +44,50 @@ pub struct Publisher {
     /// Where the first of them stand in the list that views read.
     places: Vec<Place>,
     history: History,
-    /// Of what is published.
-    front: Front,
     /// Of no items.
     origin: Front,
     /// How many views were taken.
     given: usize,
-    ghost named: { named_book (arc_value published).list.tag ≡ history.front.seen.book },
-    ghost counted: { IsCounter (arc_value published) counter × (counter.me.0 ≡ shown) },
-    ghost placed: { ArePlaced (arc_value published).list items.items places.items },
+    ghost named: { named_book (arc_value list).tag ≡ history.front.seen.book },
+    ghost placed: { ArePlaced (arc_value list) items.items places.items },
     ghost grown: { IsGrown (vec_len places) items.items history.front.count history.front.seen.log },
-    ghost told: { (shown ≤ vec_len places) × (front.seen.log ≡ take shown items.items) × (front.seen.book ≡ history.front.seen.book) },
+    ghost told: { (shown ≤ vec_len places) × (writer.desk.shown.value.front.seen.log ≡ take shown items.items) × (writer.desk.shown.value.front.seen.book ≡ history.front.seen.book) },
+    ghost known: { view writer.desk.place ≡ Some writer.desk.shown.value.front },
+    ghost settled: { drop writer.behind writer.log.items ≡ [] },
     ghost empty: { (origin.seen.log ≡ []) × (origin.seen.book ≡ history.front.seen.book) },
     ghost closing: { closed ≡ closed_in items.items },
     pub ghost rising: { Rises items.items } by { rises_prop _ _ },
+}
+
+impl Drop for Publisher {
+    fn drop(self) {
+        let Publisher {
+            alloc: _,
+            name: _,
+            schema: _schema,
+            list: _list,
+            writer,
+            items: _items,
+            closed: _,
+            shown: _,
+            places: _places,
+            history: _history,
+            origin: _origin,
+            given: _,
+        } = self;
+        // It is not dropped, so that nothing is freed which a view may still read.
+        let _kept = unsafe { ManuallyDrop::new_unchecked(writer) };
+    }
 }
 
 impl Publisher {
     ghost use Rattle.view.specs.Publishing.{published, pending, name_of, schema_of, book_of, given_of, IsSameLife};
     ghost use Rattle.view.specs.Viewing.{seen_by, IsTold, name_seen, schema_seen, book_seen};
 
-    /// A life of this name that has published nothing, of a node with this schema. It waits for nobody. The error is want of
-    /// memory.
+    /// A life of this name that has published nothing, of a node with this schema. It waits for nobody, since nobody has a
+    /// view yet. The error is want of memory.
     pub fn start<R: Wait>(
-        _rt: &R,
+        rt: &R,
         alloc: Global,
         name: Name,
         schema: Schema,
@@ -71,49 +96,53 @@ impl Publisher {
         ensures none { IfOk result (λ p. (published p ≡ []) × (pending p ≡ [])) }
     {
         let history = History::new();
-        let front = history.front.again();
         let origin = history.front.again();
-        let (published, counter) = Published::new(alloc, &origin)?;
-        let published = Arc::new(alloc, published)?;
+        let list = Arc::new(alloc, Table::new(alloc, Tag::of::<Front, Named>(&origin))?)?;
+        let first = Published {
+            front: history.front.again(),
+        };
+        let second = Published {
+            front: history.front.again(),
+        };
+        let writer = Desk::new(alloc, first, second, VIEWS)?;
+        let (writer, _done) = writer.publish_as::<Sees, R>(rt);
         Ok(Publisher {
             alloc,
             name,
             schema,
-            published,
-            counter,
+            list,
+            writer,
             items: Vec::new(alloc),
             closed: None,
             shown: 0,
             places: Vec::new(alloc),
             history,
-            front,
             origin,
             given: 0,
         })
     }
 
-    /// Ends the life. It waits for nobody. From then on `View::ask` is refused 45.
-    pub fn stop<R: Wait>(self, _rt: &R) {
+    /// Ends the life. It may wait for a view that reads how much is published. From then on `View::ask` is refused 45.
+    pub fn stop<R: Wait>(self, rt: &R) {
         let Publisher {
             alloc: _,
             name: _,
             schema: _schema,
-            published,
-            counter,
+            list: _list,
+            writer,
             items: _items,
             closed: _,
             shown: _,
             places: _places,
             history: _history,
-            front: _front,
             origin: _origin,
             given: _,
         } = self;
-        published.end(counter);
+        drop(writer.take(rt));
     }
 
-    /// A view that has seen what is published. 45 once eight were taken, of which none comes back; 43 for want of memory. A
-    /// refusal changes nothing.
+    /// A view that has seen what is published. 45 once eight were taken, of which none comes back, or where there is no
+    /// reader; 43 for want of memory. A refusal changes nothing.
     pub fn take_view(&mut self) -> Result<View, Refusal>
         ensures same { IsSameLife self.old self.new × (published self.new ≡ published self.old) × (pending self.new ≡ pending self.old) }
         ensures given { MatchResult result (λ v. (given_of self.old < 8) × (given_of self.new ≡ given_of self.old + 1)) (λ e. given_of self.new ≡ given_of self.old) }
@@ -127,11 +156,16 @@ impl Publisher {
         }
         let schema = self.schema.clone()?;
         let replay = Replay::new(self.alloc, schema, self.origin.again())?;
-        let Ok(published) = Arc::try_clone(&self.published) else {
+        let Ok(list) = Arc::try_clone(&self.list) else {
             return Err(Refusal::NoMemory);
         };
+        let Ok(mut reader) = self.writer.factory().reader() else {
+            return Err(Refusal::NoView);
+        };
+        reader.learn::<Notes>(self.writer.tell::<Notes>());
         self.given += 1;
-        Ok(View::of(self.name, published, replay, self.front.again()))
+        let front = self.writer.published().front.again();
+        Ok(View::of(self.name, list, reader, replay, front))
     }
 
     /// The closed time of all that was appended: only what may come where this is closed may be appended. Takes no memory.
@@ -160,7 +194,7 @@ impl Publisher {
     fn remember(&mut self, item: &Item) -> Result<(), AllocError>
         requires { slice_get self.old.items.items (vec_len self.old.places) ≡ Some item.now }
         ensures same { IsSameLife self.old self.new × (given_of self.new ≡ given_of self.old) × (self.new.items ≡ self.old.items) × (self.new.shown ≡ self.old.shown) }
-        ensures places { (self.new.places ≡ self.old.places) × (self.new.published ≡ self.old.published) }
+        ensures places { (self.new.places ≡ self.old.places) × (self.new.list ≡ self.old.list) }
         ensures remembered { OnOk result (self.new.history.front.seen.log ≡ take (vec_len self.old.places + 1) self.old.items.items) }
         ensures counted { OnOk result (self.new.history.front.count ≡ vec_len self.old.places + 1) }
     {
@@ -184,7 +218,7 @@ impl Publisher {
         self.remember(&item)?;
         let front = self.history.front.again();
         let shown = Shown { item, front };
-        match self.published.list.set_placed(rt, at, shown) {
+        match self.list.set_placed(rt, at, shown) {
             Ok(place) => {
                 self.places.push_reserved(place);
                 Ok(())
@@ -204,20 +238,73 @@ impl Publisher {
         Ok(())
     }
 
-    // Lets views see all that was appended, each item of which has its place.
-    fn show(&mut self)
-        requires { vec_len self.old.items ≤ vec_len self.old.places }
-        ensures same { IsSameLife self.old self.new × (given_of self.new ≡ given_of self.old) × (self.new.items ≡ self.old.items) }
-        ensures shown { vec_len self.new.items ≤ self.new.shown }
+    // `show`, by value.
+    fn showing<R: Wait>(self, rt: &R) -> (Publisher, Result<(), AllocError>)
+        requires { vec_len self.items ≤ vec_len self.places }
+        ensures same { IsSameLife self result.0 × (given_of result.0 ≡ given_of self) × (result.0.items ≡ self.items) }
+        ensures shown { MatchResult result.1 (λ _. vec_len result.0.items ≤ result.0.shown) (λ _. result.0.shown ≡ self.shown) }
     {
-        let shown = self.places.len();
-        self.published.set(&mut self.counter, shown as u64);
-        self.front = self.history.front.again();
-        self.shown = shown;
+        let Publisher {
+            alloc,
+            name,
+            schema,
+            list,
+            mut writer,
+            items,
+            closed,
+            shown,
+            places,
+            history,
+            origin,
+            given,
+        } = self;
+        if writer.append(history.front.again()).is_err() {
+            let publisher = Publisher {
+                alloc,
+                name,
+                schema,
+                list,
+                writer,
+                items,
+                closed,
+                shown,
+                places,
+                history,
+                origin,
+                given,
+            };
+            return (publisher, Err(AllocError));
+        }
+        let (writer, _done) = writer.publish_as::<Sees, R>(rt);
+        let shown = places.len();
+        let publisher = Publisher {
+            alloc,
+            name,
+            schema,
+            list,
+            writer,
+            items,
+            closed,
+            shown,
+            places,
+            history,
+            origin,
+            given,
+        };
+        (publisher, Ok(()))
     }
 
-    /// Publishes all that is pending. It waits for no view. The error is want of memory, and changes neither what is published
-    /// nor what is pending: a later call publishes all.
+    // Lets views see all that was appended, each item of which has its place.
+    fn show<R: Wait>(&mut self, rt: &R) -> Result<(), AllocError>
+        requires { vec_len self.old.items ≤ vec_len self.old.places }
+        ensures same { IsSameLife self.old self.new × (given_of self.new ≡ given_of self.old) × (self.new.items ≡ self.old.items) }
+        ensures shown { MatchResult result (λ _. vec_len self.new.items ≤ self.new.shown) (λ _. self.new.shown ≡ self.old.shown) }
+    {
+        replace_with(self, rt, |publisher, rt| publisher.showing(rt))
+    }
+
+    /// Publishes all that is pending. It may wait for a view that just then reads how much is published. The error is want of
+    /// memory, and changes neither what is published nor what is pending: a later call publishes all.
     #[tactic(auto, using(crate::proofs::Parts::all_taken, crate::proofs::Parts::none_left))]
     pub fn publish<R: Wait>(&mut self, rt: &R) -> Result<(), AllocError>
         ensures same { IsSameLife self.old self.new × (given_of self.new ≡ given_of self.old) }
@@ -228,8 +315,7 @@ impl Publisher {
             return Ok(());
         }
         self.place_all(rt)?;
-        self.show();
-        Ok(())
+        self.show(rt)
     }
 
     /// Tells of the whole published list. Takes no memory.
@@ -238,7 +324,7 @@ impl Publisher {
     {
         Notice {
             name: self.name,
-            front: self.front.again(),
+            front: self.writer.published().front.again(),
         }
     }
 }

@@ -1,5 +1,5 @@
 //! Tables that are brought up to what is published.
-ghost use Rattle.std.specs.Prelude.{◌≡◌, [], false, OnOk, IfOk, IfSome};
+ghost use Rattle.std.specs.Prelude.{◌≡◌, ◌≤◌, [], true, false, OnOk, IfOk, IfSome};
 ghost use Rattle.std.specs.Coded.{→_prop};
 ghost use Rattle.sqlread.specs.Meaning.{language_of};
 ghost use Rattle.sqlread.specs.Shapes.{query_of};
@@ -11,7 +11,7 @@ ghost use Rattle.view.specs.Lists.{IsNext};
 ghost use Rattle.view.specs.Replies.{said, HasColumns};
 ghost use Rattle.view.specs.Rules.{named_book};
 
-use crate::published::{Published, Shown};
+use crate::published::{Items, Shown};
 use answer::Answer;
 use apply::Tables;
 use closedtime::greater;
@@ -79,11 +79,11 @@ impl Replay {
     }
 
     // The next item, if it stands in the list.
-    fn next<'a>(&self, published: &'a Published) -> Option<&'a Shown>
-        requires { named_book published.now.list.tag ≡ self.now.front.seen.book }
+    fn next<'a>(&self, list: &'a Items) -> Option<&'a Shown>
+        requires { named_book list.now.tag ≡ self.now.front.seen.book }
         ensures { IfSome result (λ shown. IsNext self.now.front shown.now) }
     {
-        let shown = published.list.get(self.front.count as usize)?;
+        let shown = list.get(self.front.count as usize)?;
         if self.front.begins(&shown.front) {
             Some(shown)
         } else {
@@ -112,20 +112,21 @@ impl Replay {
         }
     }
 
-    /// Takes in what is new up to so many items. The error is want of memory.
-    pub(crate) fn take_in(&mut self, published: &Published, count: u64) -> Result<(), AllocError>
+    /// Takes in what is new up to so many items, and says whether all of them stand in the list. The error is want of memory.
+    pub(crate) fn take_in(&mut self, list: &Items, count: u64) -> Result<bool, AllocError>
         requires up { is_failed self.old.tables ≡ false }
-        requires list { named_book published.now.list.tag ≡ self.old.front.seen.book }
+        requires list { named_book list.now.tag ≡ self.old.front.seen.book }
         ensures same { (self.new.schema ≡ self.old.schema) × (self.new.front.seen.book ≡ self.old.front.seen.book) }
         ensures up { OnOk result (is_failed self.new.tables ≡ false) }
+        ensures all { IfOk result (λ all. all ≡ true → count ≤ self.new.front.count) }
     {
         for _ in self.front.count..count {
-            let Some(shown) = self.next(published) else {
+            let Some(shown) = self.next(list) else {
                 break;
             };
             self.apply(shown)?;
         }
-        Ok(())
+        Ok(count <= self.front.count)
     }
 
     // The closed time of what was taken in.

@@ -1,7 +1,8 @@
 //! A view of a life, from its caller's own thread.
-ghost use Rattle.std.specs.Prelude.{◌≡◌, ◌≢◌, ◌⊎◌, false, OnOk, IfOk, IfErr, MatchResult};
+ghost use Rattle.std.specs.Prelude.{◌≡◌, ◌≢◌, ◌⊎◌, Some, false, OnOk, IfOk, IfErr, MatchResult};
 ghost use Rattle.std.specs.Arc.{arc_value};
 ghost use mathlib.Core.List.{IsPrefix};
+ghost use Rattle.left_right.specs.Sides.{view};
 ghost use Rattle.fault.specs.declared.refusal.Refusal.TheVariants.{NoMemory, NoView};
 ghost use Rattle.sqlread.specs.Meaning.{language_of};
 ghost use Rattle.sqlread.specs.Shapes.{query_of};
@@ -10,10 +11,12 @@ ghost use Rattle.apply.specs.View.{is_failed};
 ghost use Rattle.history.specs.Items.{Rises, last_mark};
 ghost use Rattle.view.specs.Rules.{named_book};
 
-use crate::published::Published;
+use crate::published::{Glass, Items};
 use crate::replay::{Replay, Reply};
+use crate::rule::Sees;
 use crate::told::{Name, Notice};
 use answer::Answer;
+use core::mem::replace_with;
 use fault::Refusal;
 use history::Front;
 use model::mark::Mark;
@@ -33,11 +36,15 @@ pub struct Marked {
 #[derive(Drop)]
 pub struct View {
     name: Name,
-    published: Arc<Published>,
+    list: Arc<Items>,
+    reader: Glass,
     replay: Replay,
+    /// Of the list that was read last.
+    last: Front,
     /// Of the list that is seen.
     front: Front,
-    ghost named: { named_book (arc_value published).list.tag ≡ front.seen.book },
+    ghost named: { named_book (arc_value list).tag ≡ front.seen.book },
+    ghost known: { (view reader.place ≡ Some last) × (last.seen.book ≡ front.seen.book) },
     ghost one_life: { replay.front.seen.book ≡ front.seen.book },
 }
 
@@ -46,15 +53,24 @@ impl View {
     ghost use Rattle.view.specs.declared.told.Notice.{Notice};
 
     /// A view that has seen the list that the token tells of.
-    pub(crate) fn of(name: Name, published: Arc<Published>, replay: Replay, front: Front) -> View
-        requires named { named_book (arc_value published).list.tag ≡ front.seen.book }
+    pub(crate) fn of(
+        name: Name,
+        list: Arc<Items>,
+        reader: Glass,
+        replay: Replay,
+        front: Front,
+    ) -> View
+        requires named { named_book (arc_value list).tag ≡ front.seen.book }
+        requires known { view reader.place ≡ Some front }
         requires one_life { replay.front.seen.book ≡ front.seen.book }
         ensures { (result.name ≡ name) × (result.replay ≡ replay) × (result.front ≡ front) }
     {
         View {
             name,
-            published,
+            list,
+            reader,
             replay,
+            last: front.again(),
             front,
         }
     }
@@ -85,18 +101,74 @@ impl View {
         self.front.mark_or(self.name.opening)
     }
 
-    // Brings the tables up to what is published now. What is seen stays.
+    // `look`, by value.
+    fn looking(self) -> (View, bool)
+        ensures same { IsSameView self result.0 × (result.0.front ≡ self.front) × (result.0.replay ≡ self.replay) }
+        ensures no_shorter { IsPrefix self.last.seen.log result.0.last.seen.log }
+    {
+        let View {
+            name,
+            list,
+            reader,
+            replay,
+            last,
+            front,
+        } = self;
+        match reader.enter_as::<Sees>() {
+            Ok(reading) => {
+                let last = reading.get().front.again();
+                let view = View {
+                    name,
+                    list,
+                    reader: reading.leave(),
+                    replay,
+                    last,
+                    front,
+                };
+                (view, true)
+            }
+            Err(reader) => {
+                let view = View {
+                    name,
+                    list,
+                    reader,
+                    replay,
+                    last,
+                    front,
+                };
+                (view, false)
+            }
+        }
+    }
+
+    // Reads how much is published now, and whether the life goes on. It copies no more than a token, so that a publisher waits
+    // for next to nothing.
+    fn look(&mut self) -> bool
+        ensures same { IsSameView self.old self.new × (self.new.front ≡ self.old.front) × (self.new.replay ≡ self.old.replay) }
+        ensures no_shorter { IsPrefix self.old.last.seen.log self.new.last.seen.log }
+    {
+        replace_with(self, (), |view, ()| view.looking())
+    }
+
+    // Brings the tables up to what is published now, and no less far than to what is seen. What is seen stays.
     fn bring_up(&mut self) -> Result<(), Refusal>
         ensures same { IsSameView self.old self.new }
         ensures front { self.new.front ≡ self.old.front }
         ensures up { OnOk result (is_failed self.new.replay.tables ≡ false) }
+        ensures whole { OnOk result (IsPrefix self.new.front.seen.log self.new.replay.front.seen.log) }
         ensures refused { IfErr result (λ e. (e ≡ NoView) ⊎ (e ≡ NoMemory)) }
     {
         self.replay.renew()?;
-        let Some(count) = self.published.counted() else {
+        if !self.look() {
             return Err(Refusal::NoView);
-        };
-        self.replay.take_in(&*self.published, count)?;
+        }
+        let count = self.last.count.max(self.front.count);
+        // Each item that is published stands in the list, but no clause of the kit's list says so.
+        if !self.replay.take_in(&*self.list, count)? {
+            return Err(Refusal::NoView);
+        }
+        let is_whole = self.front.begins(&self.replay.front);
+        prove!(is_whole);
         Ok(())
     }
 
@@ -117,10 +189,6 @@ impl View {
         ensures columns { IfOk result (λ a. a.answer.columns.items ≡ columns_in (schema_seen self.old) query.now.table) }
     {
         self.bring_up()?;
-        // What is published is never shorter than what was told, but no clause says so.
-        if !self.front.begins(&self.replay.front) {
-            return Err(Refusal::NoView);
-        }
         let reply = self.replay.ask(query)?;
         self.front = self.replay.front.again();
         match reply {

@@ -1,10 +1,13 @@
 pub mod Lists
 pub mod Numbers
 pub mod Running
+pub mod Giving
 pub mod Seating
 pub mod Placing
 pub mod Restarts
 pub mod Bringing
 pub mod Asking
 pub mod Starting
+pub mod Refusing
 pub mod Ways
+pub mod Resuming

@@ -1,5 +1,5 @@
 -- A group in which one seat is looked at, or changed.
-use Rattle.std.proofs.Common.{◌≡◌, ◌∙◌, Bool, true, false, if◌then◌else◌, ℕ, zero, suc, ◌+◌, ◌<◌, ◌⊎◌, inl, inr, ⊎_elim, Some, None, List, [], ◌∷◌, ◌++◌, map, length, slice_get, slice_set, slice_index_or, refl, sym, ap, subst, option_map, add-one, append-nil, Ok, Err}
+use Rattle.std.proofs.Common.{rules, ◌≡◌, ◌∙◌, Bool, true, false, if◌then◌else◌, ℕ, zero, suc, ◌+◌, ◌<◌, ◌⊎◌, inl, inr, ⊎_elim, Some, None, List, [], ◌∷◌, ◌++◌, map, length, slice_get, slice_set, slice_index_or, refl, sym, ap, subst, option_map, add-one, append-nil, Ok, Err}
 use Rattle.std.proofs.lemmas.Option.{same_Some, slice_get-map, slice_get_read, get_or_from_slice_get}
 use Rattle.std.proofs.lemmas.List.{map-set, set-get_or}
 use Rattle.std.proofs.Math.ListN.{length-set}
@@ -10,12 +10,16 @@ use Rattle.model.specs.Worlds.{World, done, effect_gives, numbered, with_node}
 use Rattle.model.specs.Worlds.Output.{Applied, Refused}
 use Rattle.model.specs.declared.message.Message.{Message}
 use Rattle.fault.specs.declared.refusal.Refusal.{Refusal}
+use Rattle.keep.specs.Durable.{stored_in}
+use Rattle.keep.specs.Log.{IsLog}
+use Rattle.keep.specs.declared.memory.MemImage.{MemImage}
 use Rattle.node.specs.declared.node.Out.{Out}
 use Rattle.node.specs.View.{IsEmpty}
 use Rattle.node.specs.Work.{Work}
 use Rattle.sqlchecks.specs.Columns.{Tables}
 use Rattle.sqlread.specs.Meaning.{language_of}
 use Rattle.world.specs.declared.seat.Seat.{Seat}
+use Rattle.world.specs.declared.seat.Seat.TheVariants.{Down}
 use Rattle.world.specs.View.{brings, brought, if_up, node_in, nodes_of, works_at, IsGroup, IsSeat, IsStep}
 
 get_set : {A : Type 0} (xs : List A) (i k : ℕ) (v s : A) → slice_get (slice_set xs i v) k ≡ Some s → ((k ≡ i) × (v ≡ s)) ⊎ (slice_get xs k ≡ Some s)
@@ -128,3 +132,22 @@ module _ {t : Tables} {n : ℕ} {seats : List Seat} {m i : ℕ} {s : Seat} (p : 
     pub refused_gives : (refusal : Refusal) → IsStep (language_of t) m (node_in s) (node_in v) effect (Err refusal) →
         Refused m refusal ∷ [] ≡ brought t n w m work (nth (nodes_of seats) m)
     refused_gives refusal step = ap (effect_gives (language_of t) w m (node_in s)) step.0 ∙ gives_there
+
+-- ---- a member is given what it has stored
+
+set_none : {A B : Type 0} (f : A → B) (xs : List A) (i : ℕ) (y : B) → slice_get xs i ≡ None → slice_set (map f xs) i y ≡ map f xs
+set_none f [] i y e = refl
+set_none f (x ∷ xs) zero y e = absurd (cc e)
+set_none f (x ∷ xs) (suc i) y e = ap (λ l. f x ∷ l) (set_none f xs i y e)
+
+nth_none : {A B : Type 0} (f : A → B) (xs : List A) (m : ℕ) (y : B) → nth xs m ≡ None → with_nth (map f xs) m y ≡ map f xs
+nth_none f xs zero y e = refl
+nth_none f xs (suc i) y e = set_none f xs i y e
+
+-- where nobody is there, nothing changes
+pub nobody_stores : (seats : List Seat) (sent : List Message) (m : ℕ) (y : Node) → nth seats m ≡ None → world_with (nodes_of seats) sent ≡ with_node (world_with (nodes_of seats) sent) m y []
+nobody_stores seats sent m y e = ap (world_with (nodes_of seats)) (sym (append-nil sent)) ∙ ap (λ xs. world_with xs (sent ++ [])) (sym (nth_none node_in seats m y e))
+
+-- a member that is down, with a log stored, sits there
+pub rests : (t : Tables) (n m : ℕ) (image : MemImage) → IsLog n (language_of t) (stored_in image) → IsSeat t n m (Down image None)
+rests t n m image forms = record { up = search rules; down = search rules; recall = search rules }

@@ -1,13 +1,11 @@
 -- Runs, one more event at a time.
-use Rattle.std.proofs.Common.{◌≡◌, ◌∙◌, ℕ, ◌+◌, ⊎_elim, Some, List, [], ◌∷◌, ◌++◌, map, take, length, slice_get, refl, sym, ap, subst, append-nil, append_assoc, Result, Ok, Err, IfOk, OnErr}
+use Rattle.std.proofs.Common.{◌≡◌, ◌∙◌, ℕ, ◌+◌, ⊎_elim, Some, List, [], ◌∷◌, ◌++◌, map, take, length, slice_get, refl, sym, ap, subst, append_assoc, Result, Ok, Err, IfOk, OnErr}
 use Rattle.std.proofs.lemmas.Option.{same_Some}
 use Rattle.std.proofs.lemmas.List.{take-map}
 use Rattle.std.specs.declared.vec.Vec.{Vec}
 use Rattle.std.specs.declared.alloc.Global.{Global}
 use Rattle.sqlchecks.specs.Columns.{Tables}
-use Rattle.model.specs.Lists.{nth}
 use Rattle.model.specs.Transactions.{Language}
-use Rattle.model.specs.Agreement.{Agree}
 use Rattle.model.specs.Worlds.{World, Event, Output, happens, run, Gives, new_world}
 use Rattle.believed.specs.Worlds as later
 use Rattle.believed.proofs.GivesSame.{gives_now}
@@ -17,7 +15,7 @@ use Rattle.sqlread.specs.Meaning.{language_of}
 use Rattle.world.specs.declared.group.Group.{Group}
 use Rattle.world.specs.declared.output.Output.{Output as Out}
 use Rattle.world.specs.Run.{AddsBeginning}
-use Rattle.world.specs.View.{event_of, outputs_of, world_of, AllStamped, EachShowsColumns, IsGroup, IsRun, ShowsColumns}
+use Rattle.world.specs.View.{event_of, outputs_of, world_of, EachShowsColumns, IsGroup, IsRun, ShowsColumns}
 use Rattle.world.proofs.Lists.{map_append, push_get}
 
 run_more : (s : Language) (n : ℕ) (w : World) (es fs : List Event) → run s n w (es ++ fs) ≡ run s n (run s n w es) fs
@@ -60,10 +58,6 @@ kept_more kept after e copy is same = ap (map event_of) is ∙ map_append event_
 -- the world after one more event
 pub run_next : (s : Language) (n : ℕ) (w : World) (kept : List Event) (e : Event) → run s n w (kept ++ e ∷ []) ≡ happens s n (run s n w kept) e
 run_next s n w kept e = run_more s n w kept (e ∷ [])
-
-pub all_stamped : (s : Language) (n : ℕ) (w v : World) (es : List Event) → Agree s n w es → v ≡ run s n w es → AllStamped v
-all_stamped s n w v es agree is m x at =
-    (agree.applied_is_decided es [] m x (append-nil es) (ap (λ (u : World). nth u.nodes m) (sym is) ∙ at)).1
 
 pub run_is : (old new : Group) (kept after : List Given) (e : Given) → IsRun old kept → IsGroup old.schema old.members new.seats.items →
     world_of new ≡ happens (language_of old.schema) old.members (world_of old) (event_of e) → new.schema ≡ old.schema → new.members ≡ old.members → map event_of after ≡ map event_of kept ++ event_of e ∷ [] → IsRun new after

@@ -4,7 +4,6 @@ use Rattle.std.specs.Prelude.{IfSome}
 use Rattle.std.specs.Result.{result_ok}
 use Rattle.fault.specs.declared.refusal.Refusal.{Refusal}
 use Rattle.fault.specs.declared.refusal.Refusal.TheVariants.{NodeDown}
-use Rattle.model.specs.Logs.{IsStamped}
 use Rattle.model.specs.Members.{Node, applied, closed_time}
 use Rattle.model.specs.Transactions.{Language}
 use Rattle.model.specs.Steps.{Effect, Moves, Refuses, Nothing}
@@ -43,7 +42,7 @@ module _ (t : Tables) (n m : ℕ) (s : Seat) (o : Occupant) (there : occupant s 
   durable_there (Ok d) good bad = rw (node, up) (ap Some good.1)
   durable_there (Err f) good bad = let is = member.is_up in absurd (cc (is, bad.0))
 
-  pub asked_there : (q : QueryShape) (r : Result Answer Refusal) → (o.is_up ≡ true → IsStamped (applied x) → IsAskedOf (language_of o.tables) q (applied x) (closed_time x) r) → IsAskedAt (language_of t) q (node_in s) (node_in s).up r
+  pub asked_there : (q : QueryShape) (r : Result Answer Refusal) → (o.is_up ≡ true → IsAskedOf (language_of o.tables) q (applied x) (closed_time x) r) → IsAskedAt (language_of t) q (node_in s) (node_in s).up r
   asked_there q r h = rw (node, up, ← member.schema) (h member.is_up)
 
   pub stopped_there : (image : MemImage) → (o.is_up ≡ true → (d : Durable) → d ≡ stored_in image → d ≡ durable_of x) → at_rest (stored_in image) ≡ stopped (node_in s)

@@ -9,7 +9,7 @@ use Rattle.world.specs.declared.event.Event.{Event as Given}
 use Rattle.world.specs.declared.group.Group.{Group}
 use Rattle.world.specs.View.{IsRun}
 
-recall_prop : (tables : Tables) (recall : Recall) → IsProp (IsRecall tables recall)
+pub recall_prop : (tables : Tables) (recall : Recall) → IsProp (IsRecall tables recall)
 recall_prop tables recall = past_prop tables recall.applied.entries.items recall.applied.told.items recall.tables
 
 -- that a group is what these events make of one

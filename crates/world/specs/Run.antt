@@ -3,7 +3,7 @@ use Rattle.std.specs.Prelude.{◌≡◌, ◌++◌, ℕ, List, map, take, Option}
 use Rattle.model.specs.Lists.{nth}
 use Rattle.model.specs.Members.{Node}
 use Rattle.model.specs.Transactions.{Language}
-use Rattle.model.specs.Worlds.{World, Event, new_world, run}
+use Rattle.model.specs.Worlds.{World, Event, Output, new_world, run}
 use Rattle.sqlchecks.specs.Columns.{Tables}
 use Rattle.sqlread.specs.Meaning.{language_of}
 use Rattle.world.specs.declared.history.World.{World as Whole}
@@ -27,6 +27,10 @@ outset_of w = new_world (members_in w)
 -- what happened, from the first event on
 abbrev pub events_of : Whole → List Event
 events_of w = map event_of w.kept.items
+
+-- what each of these gave: in a new world nothing, and with each call what it gives is appended
+unfoldable pub given_of : Whole → List (List Output)
+given_of w = w.given.0
 
 -- the old events, and then a beginning of these
 abbrev pub AddsBeginning : List Event → List Event → List Event → Type 0

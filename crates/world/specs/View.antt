@@ -8,7 +8,6 @@ use Rattle.fault.specs.declared.refusal.Refusal.{Refusal}
 use Rattle.fault.specs.declared.refusal.Refusal.TheVariants.{NodeDown}
 use Rattle.model.specs.declared.entry.Entry.{Entry}
 use Rattle.model.specs.Lists.{nth}
-use Rattle.model.specs.Logs.{IsStamped}
 use Rattle.model.specs.Transactions.{Language}
 use Rattle.model.specs.Members.{Node, applied, closed_time}
 use Rattle.model.specs.Steps.{Effect, Refuses}
@@ -147,7 +146,7 @@ commit_in member = option_map (λ x. x.commit) (if_up member)
 
 -- what it answers at its closed time, by whether it is up
 abbrev pub IsAskedAt : Language → QueryShape → Node → Bool → Result Answer Refusal → Type 0
-IsAskedAt schema q x true r = IsStamped (applied x) → IsAskedOf schema q (applied x) (closed_time x) r
+IsAskedAt schema q x true r = IsAskedOf schema q (applied x) (closed_time x) r
 IsAskedAt schema q x false r = r ≡ Err NodeDown
 
 -- ---- a group
@@ -173,10 +172,6 @@ brings schema n w m work (Some x) = done w m (works_at schema n m work x)
 abbrev pub brought : Tables → ℕ → World → ℕ → Work → Option Node → List Output
 brought schema n w m work None = []
 brought schema n w m work (Some x) = effect_gives (language_of schema) w m x (works_at schema n m work x)
-
--- the stamps of what a member applied rise
-abbrev pub AllStamped : World → Type 0
-AllStamped w = (m : ℕ) (x : Node) → nth w.nodes m ≡ Some x → IsStamped (applied x)
 
 -- a group in the world after these events, which began before any term
 pub record IsRun (g : Group) (events : List Given) : Type 0 where

@@ -1,20 +1,23 @@
 //! The members of a group, and every message that they sent.
-ghost use Rattle.std.specs.Prelude.{◌≡◌, ◌+◌, ◌++◌, ◌<◌, ℕ, None, Some, true, false, length, map, vec_len, IfOk, IsOk, OnOk, MatchOption};
+ghost use Rattle.std.specs.Prelude.{◌≡◌, ◌+◌, ◌++◌, [], ◌<◌, ℕ, None, Some, true, false, length, map, vec_len, IfOk, IsOk, OnOk, MatchOption};
 ghost use Rattle.std.specs.List.{All};
 ghost use Rattle.model.specs.Lists.{nth};
 ghost use Rattle.model.specs.Members.{Node as TheNode};
-ghost use Rattle.model.specs.Worlds.{effect, happens, is_for, numbered, Gives, IsGivenAt};
+ghost use Rattle.model.specs.Worlds.{effect, happens, is_for, numbered, with_node, Gives, IsGivenAt};
 ghost use Rattle.model.specs.Worlds.Event.{Deliver, Hand, Stop, Start, Torn};
 ghost use Rattle.model.specs.Worlds.Output.{Applied as ModelApplied};
+ghost use Rattle.keep.specs.Durable.{stored_in};
+ghost use Rattle.keep.specs.Log.{IsLog};
 ghost use Rattle.node.specs.View.{works};
 ghost use Rattle.sqlchecks.specs.Columns.{Tables};
 ghost use Rattle.sqlread.specs.Meaning.{language_of, select_of};
 ghost use Rattle.sqlread.specs.Shapes.{query_of};
-ghost use Rattle.world.specs.View.{brings, brought, commit_in, durable_in, entry_in, event_of, if_up, outputs_of, world_of, AllStamped, HasColumns, IsGroup, ShowsColumns};
+ghost use Rattle.world.specs.View.{at_rest, brings, brought, commit_in, durable_in, entry_in, event_of, if_up, outputs_of, world_of, HasColumns, IsGroup, ShowsColumns};
 
 use crate::event::{Event, Job, Left};
 use crate::output::{Output, announce, apply_all, refused, single};
 use crate::seat::Seat;
+use keep::memory::MemImage;
 use model::entry::Entry;
 use model::member::Member;
 use model::message::{Input, Message};
@@ -139,6 +142,20 @@ impl Group {
         self.seats[place].stop(self.alloc);
     }
 
+    /// Puts a member down, with what this image holds stored. Nothing comes of one that is not there.
+    pub(crate) fn store(&mut self, member: Member, image: MemImage)
+        requires group { IsGroup self.old.schema self.old.members self.old.seats.items }
+        requires forms { IsLog self.old.members (language_of self.old.schema) (stored_in image) }
+        ensures group { IsGroup self.old.schema self.old.members self.new.seats.items }
+        ensures world { world_of self.new ≡ with_node (world_of self.old) member (at_rest (stored_in image)) [] }
+        ensures same { self.new ≡ record self.old { seats = self.new.seats } }
+    {
+        let Some(place) = self.place(member) else {
+            return;
+        };
+        self.seats[place].put_down(image);
+    }
+
     /// Starts a member. Nothing comes of one that is up or not there.
     fn start(&mut self, member: Member) -> Result<(), AllocError>
         requires group { IsGroup self.old.schema self.old.members self.old.seats.items }
@@ -196,7 +213,6 @@ impl Group {
     /// What a member answers. Where there is no such member nothing comes of it.
     fn ask(&self, member: Member, query: &Query) -> Result<Vec<Output>, AllocError>
         requires group { IsGroup self.now.schema self.now.members self.now.seats.items }
-        requires stamped { AllStamped (world_of self.now) }
         ensures given { IfOk result (λ outs. IsGivenAt (language_of self.now.schema) member (select_of (query_of query.now)) (nth (world_of self.now).nodes member) (outputs_of outs.items)) }
         ensures columns { IfOk result (λ outs. All (HasColumns self.now.schema query.now.table) outs.items) }
     {
@@ -212,7 +228,6 @@ impl Group {
     /// What comes of an event. One that cannot be changes nothing.
     pub(crate) fn happen(&mut self, event: &Event) -> Result<Vec<Output>, AllocError>
         requires group { IsGroup self.old.schema self.old.members self.old.seats.items }
-        requires stamped { AllStamped (world_of self.old) }
         ensures group { OnOk result (IsGroup self.old.schema self.old.members self.new.seats.items) }
         ensures world { OnOk result (world_of self.new ≡ happens (language_of self.old.schema) self.old.members (world_of self.old) (event_of event.now)) }
         ensures gives { IfOk result (λ outs. Gives (language_of self.old.schema) self.old.members (world_of self.old) (event_of event.now) (outputs_of outs.items)) }

@@ -8,6 +8,7 @@ pub mod laws;
 pub mod output;
 mod outset;
 mod refused;
+pub mod resumed;
 mod seat;
 
 pub use node::durable::StoredState;

@@ -1,5 +1,5 @@
 //! A member's place in a group.
-ghost use Rattle.std.specs.Prelude.{◌≡◌, ◌≤◌, ℕ, Some, false, IfOk, IsOk, OnOk, if◌then◌else◌};
+ghost use Rattle.std.specs.Prelude.{◌≡◌, ◌≤◌, ℕ, None, Some, false, IfOk, IsOk, OnOk, if◌then◌else◌};
 ghost use Rattle.answer.specs.Answers.{columns_in};
 ghost use Rattle.model.specs.Worlds.{node_left, started, stopped};
 ghost use Rattle.sqlchecks.specs.Columns.{Tables};
@@ -58,6 +58,13 @@ impl Seat {
             }
             Seat::Down(image, recall) => *self = Seat::Down(image, recall),
         }
+    }
+
+    /// Puts the member down, with what this image holds stored.
+    pub(crate) fn put_down(&mut self, image: MemImage)
+        ensures { self.new ≡ Seat.Down image None }
+    {
+        drop(mem::replace(self, Seat::Down(image, None)));
     }
 
     /// Starts the member with what it has stored. One that is up stays as it is.

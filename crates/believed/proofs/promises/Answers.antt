@@ -1,6 +1,9 @@
-use Rattle.model.specs.Worlds.{new_world}
+use Rattle.std.proofs.lemmas.List.{length-replicate}
+use Rattle.model.specs.Worlds.{fresh, new_world}
+use Rattle.std.specs.Prelude.{None}
 use Rattle.believed.proofs.AgreeSame.{agree_now}
 use Rattle.believed.proofs.ExplainedSame.{explained_now, submitted_so, ordered_so}
+use Rattle.believed.proofs.Given.{given_explained}
 use Rattle.believed.proofs.ServesSame.{serves_so}
 use Rattle.believed.proofs.promises.Goals as goal
 
@@ -18,3 +21,6 @@ returns-clause-ordered c = λ language n events. ordered_so language n (new_worl
 
 pub returns-clause-serves : goal.returns-clause-serves
 returns-clause-serves c = λ language n events. serves_so language n (new_world n) events (c.always_serves.ensures.new language n events)
+
+pub returns-clause-given : goal.returns-clause-given
+returns-clause-given c = λ language n events outs gives. given_explained language n events (new_world n) (length-replicate n (fresh 0 None)) outs gives (c.one_list_explains.ensures.new_run language n events)

@@ -4,7 +4,7 @@ use Rattle.sqlite.specs.Effect.{Database}
 use Rattle.sqlite.specs.declared.error.Error.{Error}
 use Rattle.sqlite.specs.State.{State, HasCleanDisk}
 use Rattle.sqlite.specs.Held.{state}
-use Rattle.storetables.specs.Contents.{Contents}
+use Rattle.durable.specs.Contents.{Contents}
 use Rattle.durable.specs.Saving.{IsSaved}
 use Rattle.durable.proofs.saving.commit_change.Goals as goal
 

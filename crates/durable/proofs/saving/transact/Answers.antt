@@ -1,8 +1,8 @@
 use Rattle.std.proofs.Common.{◌≡◌, subst, arith, rules}
 use Rattle.sqlite.specs.State.{HasCleanDisk}
 use Rattle.sqlite.specs.Held.{state}
-use Rattle.storetables.specs.Steps.{IsKept}
-use Rattle.storetables.proofs.Stepping.{begun_keeps, rolled_kept}
+use Rattle.durable.specs.Steps.{IsKept}
+use Rattle.durable.proofs.Stepping.{begun_keeps, rolled_kept}
 use Rattle.durable.proofs.saving.transact.Goals as goal
 
 pub returns-in_err-write_change-clause-err : goal.returns-in_err-write_change-clause-err

@@ -1,6 +1,6 @@
 use Rattle.std.proofs.Common.{rules}
 use Rattle.std.specs.Prelude.{IfErr, string_bytes}
-use Rattle.flightread.specs.Files.{IsNoFile}
+use Rattle.flight.specs.Files.{IsNoFile}
 use Rattle.shell.specs.Reading.{IsRead}
 use Rattle.shell.proofs.Groups.{unread, zip_more}
 use Rattle.shell.proofs.group.read_flights.Goals as goal

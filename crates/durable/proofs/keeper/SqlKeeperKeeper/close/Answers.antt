@@ -1,5 +1,5 @@
 use Rattle.sqlite.specs.Held.{state}
-use Rattle.storetables.specs.Found.{stored_offers}
+use Rattle.durable.specs.Found.{stored_offers}
 use Rattle.durable.proofs.keeper.SqlKeeperKeeper.close.Goals as goal
 
 pub returns-clause-good : goal.returns-clause-good

@@ -1,6 +1,6 @@
 use Rattle.std.proofs.Common.{◌≡◌, ◌≤◌, ◌∙◌, length, vec_len, arith, refl, sym, ap, subst, rules}
 use Rattle.sqlite.specs.Held.{state}
-use Rattle.storetables.specs.Stored.{stored_in, AreTexts, Offers}
+use Rattle.durable.specs.Stored.{stored_in, AreTexts, Offers}
 use Rattle.durable.proofs.Settling.{settled_stored, settled_forms, stored_length, begins}
 use Rattle.durable.proofs.keeper.SqlKeeperKeeper.open.Goals as goal
 

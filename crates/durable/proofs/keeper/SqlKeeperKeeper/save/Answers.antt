@@ -3,9 +3,9 @@ use Rattle.sqlite.specs.State.{HasCleanDisk}
 use Rattle.sqlite.specs.Held.{state}
 use Rattle.keep.specs.Durable.{Durable}
 use Rattle.keep.specs.Log.{IsLog}
-use Rattle.storetables.specs.Stored.{contents_in, stored_in, IsSound, Offers}
-use Rattle.storetables.specs.Found.{offers_held}
-use Rattle.storetables.proofs.Settling.{log_plain}
+use Rattle.durable.specs.Stored.{contents_in, stored_in, IsSound, Offers}
+use Rattle.durable.specs.Found.{offers_held}
+use Rattle.durable.proofs.Offering.{log_plain}
 use Rattle.durable.specs.Saving.{IsBeginning, IsHard}
 use Rattle.durable.proofs.Settling.{saved_is, saved_stored, kept_sound, kept_same, kept_stored, stored_length, after_length, is_known}
 use Rattle.durable.proofs.keeper.SqlKeeperKeeper.save.Goals as goal

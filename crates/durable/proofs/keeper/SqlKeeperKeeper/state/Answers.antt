@@ -4,8 +4,8 @@ use Rattle.sqlite.specs.Held.{state}
 use Rattle.sqlite.specs.Effect.{Database}
 use Rattle.keep.specs.Durable.{tail_of}
 use Rattle.keep.specs.Log.{IsLog}
-use Rattle.storetables.specs.Stored.{contents_in, stored_in, IsSound, Offers}
-use Rattle.storetables.proofs.Settling.{keeps_offers}
+use Rattle.durable.specs.Stored.{contents_in, stored_in, IsSound, Offers}
+use Rattle.durable.proofs.Offering.{keeps_offers}
 use Rattle.durable.proofs.Settling.{stored_length, same_settles, keeps_sound, keeps_same, keeps_stored, keeps_hard, keeps_begun}
 use Rattle.durable.proofs.keeper.SqlKeeperKeeper.state.Goals as goal
 

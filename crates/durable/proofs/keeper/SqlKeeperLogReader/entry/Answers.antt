@@ -4,9 +4,9 @@ use Rattle.sqlite.specs.Held.{state}
 use Rattle.sqlite.specs.Effect.{Database}
 use Rattle.model.specs.declared.entry.Entry.{Entry}
 use Rattle.keep.specs.Log.{IsLog}
-use Rattle.storetables.specs.Stored.{contents_in, stored_in, IsSound, Offers}
-use Rattle.storetables.proofs.Settling.{keeps_offers}
-use Rattle.storetables.proofs.Tails.{found_in}
+use Rattle.durable.specs.Stored.{contents_in, stored_in, IsSound, Offers}
+use Rattle.durable.proofs.Offering.{keeps_offers}
+use Rattle.durable.proofs.Tails.{found_in}
 use Rattle.durable.specs.Saving.{IsBeginning}
 use Rattle.durable.proofs.Settling.{same_settles, keeps_sound, keeps_same, keeps_stored, keeps_hard, keeps_begun}
 use Rattle.durable.proofs.keeper.SqlKeeperLogReader.entry.Goals as goal

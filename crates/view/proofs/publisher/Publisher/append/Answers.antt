@@ -9,7 +9,7 @@ use Rattle.view.proofs.publisher.Publisher.append.Goals as goal
 pub invariant_of-self-clause-placed : goal.invariant_of-self-clause-placed
 invariant_of-self-clause-placed c =
     let old = c.args.self.now in
-    subst (λ (xs : List Item). ArePlaced (arc_value old.published).list xs old.places.items) (sym c.reserve.ensures.items) old.placed
+    subst (λ (xs : List Item). ArePlaced (arc_value old.list) xs old.places.items) (sym c.reserve.ensures.items) old.placed
 
 pub invariant_of-self-clause-grown : goal.invariant_of-self-clause-grown
 invariant_of-self-clause-grown c =
@@ -49,10 +49,10 @@ pub invariant_of-self-2-clause-placed : goal.invariant_of-self-2-clause-placed
 invariant_of-self-2-clause-placed c =
     let old = c.args.self.now in
     let longer : c.push_reserved.new.self.items ≡ old.items.items ++ c.args.item ∷ [] = c.push_reserved.ensures.items ∙ ap (λ (xs : List Item). xs ++ c.args.item ∷ []) c.reserve.ensures.items in
-    placed_stay (arc_value old.published).list old.items.items _ (c.args.item ∷ []) old.places.items old.placed longer
+    placed_stay (arc_value old.list) old.items.items _ (c.args.item ∷ []) old.places.items old.placed longer
 
 pub invariant_of-self-2-clause-told : goal.invariant_of-self-2-clause-told
 invariant_of-self-2-clause-told c =
     let old = c.args.self.now in
     let longer : c.push_reserved.new.self.items ≡ old.items.items ++ c.args.item ∷ [] = c.push_reserved.ensures.items ∙ ap (λ (xs : List Item). xs ++ c.args.item ∷ []) c.reserve.ensures.items in
-    (old.told.0, first_more old.shown old.items.items _ (c.args.item ∷ []) old.front.seen.log (omega (arith, old.told.0, old.grown.1, old.grown.3)) old.told.1 longer, old.told.2)
+    (old.told.0, first_more old.shown old.items.items _ (c.args.item ∷ []) old.writer.desk.shown.value.front.seen.log (omega (arith, old.told.0, old.grown.1, old.grown.3)) old.told.1 longer, old.told.2)

@@ -1,4 +1,4 @@
-use Rattle.std.proofs.Common.{◌≡◌, ◌∙◌, ℕ, Some, ap, sym, slice_get}
+use Rattle.std.proofs.Common.{◌≡◌, ◌∙◌, ℕ, Some, ap, slice_get}
 use Rattle.view.proofs.Appending.{next_follows, remembered}
 use Rattle.view.proofs.publisher.Publisher.remember.Goals as goal
 

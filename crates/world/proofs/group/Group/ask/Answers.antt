@@ -18,9 +18,8 @@ returns-in-Ok-clause-given c =
     let placed : IsPlaced self.schema self.members self.seats.items c.args.member c.in-Some.place c.index.result.now = record { next = c.in-Some.ensures.0; within = omega (arith, self.seats.ok.0, c.in-Some.ensures.1); at = c.index.ensures; group = c.requires.group } in
     let sits = seat placed in
     let there = here placed in
-    let stamped = c.requires.stamped c.args.member (node_in s) there in
     let asked = c.in-Ok.ensures.asked self.schema self.members c.args.member sits in
-    IfOk-weaker c.single.result _ _ (λ outs e. answered (language_of self.schema) c.args.member (query_of c.args.query.now) (node_in s) _ c.in-Ok.answer (outputs_of outs.items) there asked stamped (ap outputs_of e)) c.single.ensures
+    IfOk-weaker c.single.result _ _ (λ outs e. answered (language_of self.schema) c.args.member (query_of c.args.query.now) (node_in s) _ c.in-Ok.answer (outputs_of outs.items) there asked (ap outputs_of e)) c.single.ensures
 
 pub returns-in-Err-clause-given : goal.returns-in-Err-clause-given
 returns-in-Err-clause-given c =
@@ -29,9 +28,8 @@ returns-in-Err-clause-given c =
     let placed : IsPlaced self.schema self.members self.seats.items c.args.member c.in-Some.place c.index.result.now = record { next = c.in-Some.ensures.0; within = omega (arith, self.seats.ok.0, c.in-Some.ensures.1); at = c.index.ensures; group = c.requires.group } in
     let sits = seat placed in
     let there = here placed in
-    let stamped = c.requires.stamped c.args.member (node_in s) there in
     let asked = c.in-Err.ensures.asked self.schema self.members c.args.member sits in
-    IfOk-weaker c.refused.result _ _ (λ outs e. refused (language_of self.schema) c.args.member (query_of c.args.query.now) (node_in s) _ c.in-Err.refusal (outputs_of outs.items) there asked stamped e.1 (ap outputs_of e.0)) c.refused.ensures
+    IfOk-weaker c.refused.result _ _ (λ outs e. refused (language_of self.schema) c.args.member (query_of c.args.query.now) (node_in s) _ c.in-Err.refusal (outputs_of outs.items) there asked e.1 (ap outputs_of e.0)) c.refused.ensures
 
 pub returns-in-Ok-clause-columns : goal.returns-in-Ok-clause-columns
 returns-in-Ok-clause-columns c =

@@ -1,5 +1,6 @@
 use Rattle.std.proofs.Common.{rules}
 use Rattle.world.specs.Run.{events_of}
+use Rattle.world.proofs.Giving.{world_explained}
 use Rattle.world.proofs.history.World.run.Goals as goal
 
 pub returns-in_err-check_live-clause-gives : goal.returns-in_err-check_live-clause-gives
@@ -16,6 +17,9 @@ returns-in_err-check_live-clause-begun c = search rules
 
 pub returns-in_err-check_live-clause-agree : goal.returns-in_err-check_live-clause-agree
 returns-in_err-check_live-clause-agree c = search rules
+
+pub returns-in_err-check_live-clause-given : goal.returns-in_err-check_live-clause-given
+returns-in_err-check_live-clause-given c = search rules
 
 pub returns-in_err-check_live-clause-explained : goal.returns-in_err-check_live-clause-explained
 returns-in_err-check_live-clause-explained c = search rules
@@ -65,8 +69,11 @@ returns-in-Ok-clause-begun c = search rules
 pub returns-in-Ok-clause-agree : goal.returns-in-Ok-clause-agree
 returns-in-Ok-clause-agree c = search rules
 
+pub returns-in-Ok-clause-given : goal.returns-in-Ok-clause-given
+returns-in-Ok-clause-given c = search rules
+
 pub returns-in-Ok-clause-explained : goal.returns-in-Ok-clause-explained
-returns-in-Ok-clause-explained c = search rules
+returns-in-Ok-clause-explained c = world_explained c.promises.ensures.given c.run_all.new.self _ c.in-Ok.ensures.given
 
 pub returns-in-Ok-clause-invented : goal.returns-in-Ok-clause-invented
 returns-in-Ok-clause-invented c = search rules
@@ -112,6 +119,9 @@ returns-in-Err-clause-begun c = search rules
 
 pub returns-in-Err-clause-agree : goal.returns-in-Err-clause-agree
 returns-in-Err-clause-agree c = search rules
+
+pub returns-in-Err-clause-given : goal.returns-in-Err-clause-given
+returns-in-Err-clause-given c = search rules
 
 pub returns-in-Err-clause-explained : goal.returns-in-Err-clause-explained
 returns-in-Err-clause-explained c = search rules

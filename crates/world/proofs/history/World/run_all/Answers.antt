@@ -6,9 +6,10 @@ use Rattle.believed.specs.Worlds.{run, Gives, GivesAll}
 use Rattle.sqlchecks.specs.Columns.{Tables}
 use Rattle.sqlread.specs.Meaning.{language_of}
 use Rattle.world.specs.declared.event.Event.{Event as Given}
-use Rattle.world.specs.Run.{language_in, members_in, events_of, world_in}
+use Rattle.world.specs.Run.{language_in, members_in, events_of, given_of, world_in}
 use Rattle.world.specs.View.{event_of, outputs_of, ShowsColumns}
 use Rattle.world.proofs.Lists.{map_append}
+use Rattle.world.proofs.Giving.{given_through}
 use Rattle.world.proofs.Running.{begun_with, columns_more, kept_through, on_err, step_more}
 use Rattle.world.proofs.history.World.run_all.Goals as goal
 
@@ -38,6 +39,7 @@ loop-event-preserved c =
       members = c.step.ensures.same.1 ∙ inv.members;
       kept = kept_through (events_of old) (events_of c.loop-event.self) (events_of c.step.new.self) all i e inv.kept c.in_ok-step.ensures.kept next;
       gives = subst S (sym next) (subst T (sym (ap (map (λ o. outputs_of o.items)) pushed ∙ map_append (λ o. outputs_of o.items) c.loop-event.outs.items (c.in_ok-step.field-0 ∷ []))) more);
+      given = given_through (given_of old) (given_of c.loop-event.self) (given_of c.step.new.self) c.loop-event.outs.items c.push.new.self.items c.in_ok-step.field-0 inv.given c.in_ok-step.ensures.given pushed;
       count = ap length pushed ∙ length-append c.loop-event.outs.items (c.in_ok-step.field-0 ∷ []) ∙ ap (λ n. n + 1) inv.count;
       columns = columns_more old.group.schema all c.loop-event.outs.items c.push.new.self.items i e c.in_ok-step.field-0 inv.count pushed at inv.columns (subst U inv.schema c.in_ok-step.ensures.columns);
     }

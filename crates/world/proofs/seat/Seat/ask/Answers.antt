@@ -11,7 +11,7 @@ use Rattle.world.proofs.seat.Seat.ask.Goals as goal
 pub returns-in-Up-clause-asked : goal.returns-in-Up-clause-asked
 returns-in-Up-clause-asked c t n m seat =
     let x = c.in-Up.node in
-    asked_there t n m c.args.self.now (occupant_of x) (ap occupant c.in-Up.is) (member_of x) refl (ap node_in c.in-Up.is) seat (query_of c.args.query.now) c.ask.result (λ up stamped. c.ask.ensures.asked up tt)
+    asked_there t n m c.args.self.now (occupant_of x) (ap occupant c.in-Up.is) (member_of x) refl (ap node_in c.in-Up.is) seat (query_of c.args.query.now) c.ask.result (λ up. c.ask.ensures.asked up tt)
 
 pub returns-in-Up-clause-columns : goal.returns-in-Up-clause-columns
 returns-in-Up-clause-columns c =

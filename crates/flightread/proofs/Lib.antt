@@ -1,3 +1,0 @@
-pub mod Stories
-pub mod Whole
-mod Refusing

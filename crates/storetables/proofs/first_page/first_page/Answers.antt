@@ -1,9 +1,0 @@
-use Rattle.std.proofs.Common.{◌≡◌, ◌∙◌, ◌++◌, ◌+◌, ◌-◌, ℕ, List, replicate, take, ap}
-use Rattle.storetables.specs.declared.first_page.TheConstants.{HEAD}
-use Rattle.storetables.proofs.first_page.first_page.Goals as goal
-
-pub returns : goal.returns
-returns c =
-    c.in_ok-resize.ensures.items
-    ∙ ap (λ (n : ℕ). take 1024 c.extend_from_slice.new.self.items ++ replicate (1024 - n) 0) (c.in_ok-extend_from_slice.ensures.len ∙ ap (λ (n : ℕ). n + 108) c.in_ok-page.ensures.len)
-    ∙ ap (λ (xs : List ℕ). take 1024 xs ++ replicate 916 0) (c.in_ok-extend_from_slice.ensures.items ∙ ap (λ (xs : List ℕ). xs ++ HEAD) c.in_ok-page.ensures.items)
